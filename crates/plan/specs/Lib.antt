@@ -1,0 +1,5 @@
+-- The nouns of the page, as the definitions read them.
+pub mod Days
+pub mod Powers
+pub mod Sets
+pub mod Refusals

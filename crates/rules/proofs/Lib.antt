@@ -1,0 +1,3 @@
+-- What follows from the page alone.
+pub mod Days
+pub mod Walk

@@ -1,0 +1,81 @@
+-- "An allowed plan": a choice for each task, and when such a choice keeps the rules. Both senses are stated directly.
+use Prim.Native.Nat.{ℕ, zero, suc}
+use mathlib.Core.List.{List, [], _∷_}
+use mathlib.Core.Bool.{Bool, true, false}
+use lib.IntN.{ℤ, pos, _+ℤ_, predℤ}
+use lib.Signed.{leZ, ltZ}
+use lib.Dec.{eqb}
+use Rattle.integers.specs.Whole.{eqZ}
+use Rattle.integers.specs.Tests.{if, and, implies, all}
+use Rattle.integers.specs.Sums.{sumOf}
+use Rattle.integers.specs.Hull.{range, within, values}
+use Rattle.plan.specs.declared.Task.{Task}
+use Rattle.plan.specs.declared.Resource.{Resource}
+use Rattle.plan.specs.declared.Sense.{Sense}
+use Rattle.plan.specs.declared.Sense.the-variants.{AtMost, AtLeast}
+use Rattle.plan.specs.Days.{daysOf}
+use Rattle.plan.specs.Powers.{powersOf}
+use Rattle.plan.specs.Sets.{has}
+
+-- "It chooses for each task one resource and one value in each range"
+pub record Choice : Type 0 where
+  pub resource : ℕ
+  pub origin : ℤ
+  pub duration : ℤ
+  pub end : ℤ
+  pub height : ℤ
+
+-- the choice lies in the task's set and ranges
+unfoldable pub inside : Task → Choice → Bool
+inside t c =
+    and (has (t .set) (c .resource))
+    (and (within (daysOf (t .origin)) (c .origin))
+    (and (within (daysOf (t .duration)) (c .duration))
+    (and (within (daysOf (t .end)) (c .end)) (within (powersOf (t .height)) (c .height)))))
+
+-- one choice for each task, in the tasks' order
+unfoldable pub insideAll : List Task → List Choice → Bool
+insideAll [] [] = true
+insideAll [] (c ∷ cs) = false
+insideAll (t ∷ ts) [] = false
+insideAll (t ∷ ts) (c ∷ cs) = and (inside t c) (insideAll ts cs)
+
+-- "so that origin + duration = end for each task"
+unfoldable pub joined : Choice → Bool
+joined c = eqZ (c .origin +ℤ c .duration) (c .end)
+
+-- "A task covers the days from origin to end - 1. So a task of duration 0 covers none."
+unfoldable pub covers : ℕ → ℤ → Choice → Bool
+covers r i c = and (eqb (c .resource) r) (and (leZ (c .origin) i) (ltZ i (c .end)))
+
+unfoldable pub coveredDays : Choice → List ℤ
+coveredDays c = values (range (c .origin) (predℤ (c .end)))
+
+-- "the heights of all tasks covering that day on that resource add up to"
+unfoldable pub adds : ℕ → ℤ → Choice → ℤ
+adds r i c = if (covers r i c) (c .height) (pos 0)
+
+unfoldable pub level : ℕ → ℤ → List Choice → ℤ
+level r i cs = sumOf (adds r i) cs
+
+-- "at least (or at most) the limit"
+unfoldable pub meets : Sense → ℤ → ℤ → Bool
+meets AtLeast limit x = leZ limit x
+meets AtMost limit x = leZ x limit
+
+-- the limit of a resource on a day
+unfoldable pub limitOn : Resource → ℤ → ℤ
+limitOn q i = q .limit .0
+
+-- "on every resource and every day covered there by at least one task"; "A day that no task covers is not checked"
+unfoldable pub holds : Sense → ℕ → (ℤ → ℤ) → List Choice → Bool
+holds sense r limit cs =
+    all (λ c. implies (eqb (c .resource) r) (all (λ i. meets sense (limit i) (level r i cs)) (coveredDays c))) cs
+
+-- every resource, from place r on
+unfoldable pub holdsFrom : Sense → ℕ → List Resource → List Choice → Bool
+holdsFrom sense r [] cs = true
+holdsFrom sense r (q ∷ qs) cs = and (holds sense r (limitOn q) cs) (holdsFrom sense (suc r) qs cs)
+
+unfoldable pub allowed : Sense → List Resource → List Choice → Bool
+allowed sense qs cs = and (all joined cs) (holdsFrom sense 0 qs cs)

@@ -1,0 +1,7 @@
+-- The page of rules, in the page's order: what an allowed plan is, the steps, pass and settling, and what each call answers.
+pub mod Allowed
+pub mod Listing
+pub mod Balance
+pub mod Step
+pub mod Settle
+pub mod Calls
