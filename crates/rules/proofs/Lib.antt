@@ -1,3 +1,4 @@
 -- What follows from the page alone.
 pub mod Days
 pub mod Walk
+pub mod Cases

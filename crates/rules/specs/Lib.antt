@@ -5,3 +5,4 @@ pub mod Balance
 pub mod Step
 pub mod Settle
 pub mod Calls
+pub mod Cases
