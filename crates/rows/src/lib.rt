@@ -1,10 +1,17 @@
 // The core's lists: a task stands in a row of nine numbers, a resource in a row of two, a list is a lent slice of rows.
 // Slices of rows of numbers are lent and changed in place; the view in specs/ says which tasks and resources they hold.
 ghost use mathlib.Core.Path.{_≡_};
+ghost use mathlib.Core.Bool.{Bool};
 ghost use Prim.Native.Nat.{ℕ, _<_};
 ghost use mir.Syntax.{w64};
 ghost use mir.Val.{ofZ};
 ghost use lib.ListN.{length, getD, set};
+ghost use Rattle.integers.specs.Tests.{if};
+ghost use Rattle.integers.specs.Whole.{eqZ};
+ghost use Rattle.plan.specs.Days.{daysOf};
+ghost use Rattle.plan.specs.Powers.{powersOf};
+ghost use Rattle.rules.specs.Settle.{sameRange, sameTask};
+ghost use Rattle.rows.specs.Changes.{union};
 ghost use Rattle.rows.specs.View.{taskOf, tasksOf, noTask, idOf, resourceOf, resourcesOf, noResource};
 use plan::Day;
 use plan::Power;
@@ -148,4 +155,79 @@ pub fn limit_at(s: &[[i64; 2]], i: usize) -> Power
     ensures { λ r. ⌜ r ≡ (getD (resourcesOf (now (s .entry))) i noResource) .limit ⌝ }
 {
     Power(s[i][1])
+}
+
+// "changes nothing": the same set and ranges.
+fn same_day(a: Day, b: Day) -> bool
+    ensures { λ r. ⌜ r ≡ eqZ (a .0) (b .0) ⌝ }
+{
+    a.0 == b.0
+}
+
+fn same_power(a: Power, b: Power) -> bool
+    ensures { λ r. ⌜ r ≡ eqZ (a .0) (b .0) ⌝ }
+{
+    a.0 == b.0
+}
+
+fn same_days(a: Span, b: Span) -> bool
+    ensures { λ r. ⌜ r ≡ sameRange (daysOf a) (daysOf b) ⌝ }
+{
+    if same_day(a.low, b.low) {
+        same_day(a.high, b.high)
+    } else {
+        false
+    }
+}
+
+fn same_powers(a: PowerSpan, b: PowerSpan) -> bool
+    ensures { λ r. ⌜ r ≡ sameRange (powersOf a) (powersOf b) ⌝ }
+{
+    if same_power(a.low, b.low) {
+        same_power(a.high, b.high)
+    } else {
+        false
+    }
+}
+
+pub fn same_task(a: Task, b: Task) -> bool
+    ensures { λ r. ⌜ r ≡ sameTask a b ⌝ }
+{
+    if a.set == b.set {
+        if same_days(a.origin, b.origin) {
+            if same_days(a.duration, b.duration) {
+                if same_days(a.end, b.end) {
+                    same_powers(a.height, b.height)
+                } else {
+                    false
+                }
+            } else {
+                false
+            }
+        } else {
+            false
+        }
+    } else {
+        false
+    }
+}
+
+// What a step says of the list that it changed in place: a plan is left, and the places in the entry sets of the changed tasks.
+pub struct Stepped {
+    pub ok: bool,
+    pub touched: u64,
+}
+
+// A task put back as u, if that changed it; then its set is noted among the touched.
+pub fn put_changed(s: &mut [[i64; 9]], i: usize, u: Task, touched: u64) -> u64
+    requires { ⌜ i < length (now s) ⌝ }
+    ensures after { λ _. ⌜ tasksOf (now (s .exit)) ≡ set (tasksOf (now (s .entry))) i u ⌝ }
+    ensures noted { λ r. ⌜ r ≡ if (sameTask (getD (tasksOf (now (s .entry))) i noTask) u) touched (union touched ((getD (tasksOf (now (s .entry))) i noTask) .set)) ⌝ }
+{
+    let t = task_at(s, i);
+    if same_task(t, u) {
+        return touched;
+    }
+    put_task(s, i, u);
+    touched | t.set
 }
