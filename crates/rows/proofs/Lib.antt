@@ -1,0 +1,3 @@
+-- Laws of the view and of the changes that a step tells.
+pub mod View
+pub mod Changes

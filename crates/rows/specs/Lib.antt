@@ -1,0 +1,3 @@
+-- Rows of numbers as tasks and resources, and what a step says of the tasks that it changed.
+pub mod View
+pub mod Changes
