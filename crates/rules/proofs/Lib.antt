@@ -1,3 +1,5 @@
 -- What follows from the page alone.
 pub mod Days
 pub mod Walk
+pub mod Live
+pub mod Quiet
