@@ -3,3 +3,4 @@ pub mod Days
 pub mod Walk
 pub mod Live
 pub mod Quiet
+pub mod Negation
