@@ -4,3 +4,10 @@ pub mod Walk
 pub mod Live
 pub mod Quiet
 pub mod Negation
+pub mod Inside
+pub mod Limits
+pub mod Stays
+pub mod Hopes
+pub mod StepSound
+pub mod BalanceSound
+pub mod AtMostSound
