@@ -11,3 +11,5 @@ pub mod Hopes
 pub mod StepSound
 pub mod BalanceSound
 pub mod AtMostSound
+pub mod Subs
+pub mod Shrinks
