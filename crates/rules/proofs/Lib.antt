@@ -13,3 +13,4 @@ pub mod BalanceSound
 pub mod AtMostSound
 pub mod Subs
 pub mod Shrinks
+pub mod Checks
