@@ -14,3 +14,4 @@ pub mod AtMostSound
 pub mod Subs
 pub mod Shrinks
 pub mod Checks
+pub mod Listings

@@ -4,4 +4,5 @@ pub mod Listing
 pub mod Balance
 pub mod Step
 pub mod Settle
+pub mod Moves
 pub mod Calls
