@@ -15,3 +15,6 @@ pub mod AtMostSound
 pub mod Subs
 pub mod Shrinks
 pub mod Checks
+pub mod Listings
+pub mod Keeps
+pub mod Passes

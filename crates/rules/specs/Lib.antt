@@ -4,5 +4,6 @@ pub mod Listing
 pub mod Balance
 pub mod Step
 pub mod Settle
+pub mod Moves
 pub mod Calls
 pub mod Cases
