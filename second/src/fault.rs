@@ -1,0 +1,40 @@
+//! The six "Errors that look right" of document 01, each to be planted alone.
+
+/// A planted error. The rules without one take `None`.
+#[derive(Clone, Copy, Debug, PartialEq, Eq)]
+pub enum Fault {
+    /// "Counting a negative height while the task may still go elsewhere":
+    /// a negative hope counts although r is not the task's only resource.
+    NegativeElsewhere,
+    /// "Treating end as a covered day": i <= end where the rule says i < end.
+    EndCovered,
+    /// "Checking bare days as if the level held there": shortfall and need
+    /// speak on every day from the first origin to before the last end.
+    BareDays,
+    /// "Closing a range round a barred middle, dropping one side": the range
+    /// stops at the first barred value after its smallest value left.
+    ClosedMiddle,
+    /// "Requiring a sure task before barring".
+    BarNeedsSure,
+    /// "Taking a task's own height out of the sum to get others when it was
+    /// never added, as for a negative one that isn't sure."
+    OwnNeverAdded,
+}
+
+/// Every fault with the name the command line knows it by.
+pub const FAULTS: [(&str, Fault); 6] = [
+    ("negative-elsewhere", Fault::NegativeElsewhere),
+    ("end-covered", Fault::EndCovered),
+    ("bare-days", Fault::BareDays),
+    ("closed-middle", Fault::ClosedMiddle),
+    ("bar-needs-sure", Fault::BarNeedsSure),
+    ("own-never-added", Fault::OwnNeverAdded),
+];
+
+/// The fault of that name, if there is one.
+pub fn named(name: &str) -> Option<Fault> {
+    FAULTS
+        .iter()
+        .find(|(known, _)| *known == name)
+        .map(|(_, fault)| *fault)
+}

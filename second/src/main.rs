@@ -1,0 +1,155 @@
+//! The command line of the second program.
+
+use second::fault::{self, Fault, FAULTS};
+use second::{allowed, file, kinds, make, program, words};
+use std::io::{self, Read, Write};
+use std::process::ExitCode;
+
+/// `count` lists no more than this.
+const MOST_LISTED: u128 = 2_000_000_000;
+
+fn main() -> ExitCode {
+    let arguments: Vec<String> = std::env::args().skip(1).collect();
+    match run(&arguments) {
+        Ok(()) => ExitCode::SUCCESS,
+        Err(error) => {
+            eprintln!("second: {error}");
+            ExitCode::FAILURE
+        }
+    }
+}
+
+fn run(arguments: &[String]) -> Result<(), String> {
+    let Some((command, rest)) = arguments.split_first() else {
+        return Err(format!("no command given\n{}", help()));
+    };
+    match command.as_str() {
+        "settle" => settle(fault_option(rest)?),
+        "answers" => answers(fault_option(rest)?),
+        "count" => nothing_more(rest).and_then(|()| count()),
+        "words" => nothing_more(rest).and_then(|()| plan_words()),
+        "make" => make_stream(rest),
+        "help" | "--help" | "-h" => print(help().as_bytes()),
+        other => Err(format!("unknown command {other}\n{}", help())),
+    }
+}
+
+fn help() -> String {
+    let names: Vec<&str> = FAULTS.iter().map(|(name, _)| *name).collect();
+    format!(
+        "usage:
+  second settle [--fault NAME] < FILE      what the planning program prints for FILE
+  second answers [--fault NAME] < STREAM   the same for each file of a stream
+  second count < FILE                      number of allowed plans, by listing
+  second words < FILE                      the plan in readable words
+  second make SEED COUNT > STREAM          a stream of COUNT plan files, the same for one SEED
+  second help                              this text
+A stream holds plan files, each with its length in front as 4 bytes little-endian.
+NAME is one of: {}
+",
+        names.join(", ")
+    )
+}
+
+fn settle(fault: Option<Fault>) -> Result<(), String> {
+    print(program::answer(&plan_file()?, fault).as_bytes())
+}
+
+fn answers(fault: Option<Fault>) -> Result<(), String> {
+    let mut stream = Vec::new();
+    io::stdin()
+        .read_to_end(&mut stream)
+        .map_err(|error| format!("cannot read: {error}"))?;
+    let mut out = io::BufWriter::new(io::stdout().lock());
+    let mut rest = stream.as_slice();
+    let mut number = 0;
+    while !rest.is_empty() {
+        let (file, after) =
+            first_file(rest).ok_or(format!("the stream is cut short in file {number}"))?;
+        let answer = program::answer(file, fault);
+        out.write_all(answer.as_bytes())
+            .map_err(|error| format!("cannot write: {error}"))?;
+        rest = after;
+        number += 1;
+    }
+    out.flush()
+        .map_err(|error| format!("cannot write: {error}"))
+}
+
+/// The stream's first file and what comes after it.
+fn first_file(stream: &[u8]) -> Option<(&[u8], &[u8])> {
+    let length = u32::from_le_bytes(stream.get(..4)?.try_into().ok()?) as usize;
+    let file = stream.get(4..4 + length)?;
+    Some((file, &stream[4 + length..]))
+}
+
+fn count() -> Result<(), String> {
+    let plan = read_plan()?;
+    let (largest, plans) = allowed::listing_size(&plan);
+    if largest > MOST_LISTED || plans > MOST_LISTED {
+        return Err(format!(
+            "too much to list: up to {plans} plans, {largest} values of one task"
+        ));
+    }
+    let count = allowed::count(&plan).map_err(refused)?;
+    print(format!("{count}\n").as_bytes())
+}
+
+fn plan_words() -> Result<(), String> {
+    print(words::words(&read_plan()?).as_bytes())
+}
+
+fn make_stream(rest: &[String]) -> Result<(), String> {
+    let [seed, count] = rest else {
+        return Err(format!("make takes SEED and COUNT\n{}", help()));
+    };
+    let number = |text: &String| {
+        text.parse::<u64>()
+            .map_err(|_| format!("not a number from 0: {text}\n{}", help()))
+    };
+    print(&make::stream(number(seed)?, number(count)?))
+}
+
+fn fault_option(rest: &[String]) -> Result<Option<Fault>, String> {
+    match rest {
+        [] => Ok(None),
+        [option, name] if option == "--fault" => fault::named(name)
+            .map(Some)
+            .ok_or(format!("unknown fault {name}\n{}", help())),
+        _ => Err(format!("not understood: {}\n{}", rest.join(" "), help())),
+    }
+}
+
+fn nothing_more(rest: &[String]) -> Result<(), String> {
+    if rest.is_empty() {
+        Ok(())
+    } else {
+        Err(format!("not understood: {}\n{}", rest.join(" "), help()))
+    }
+}
+
+/// At most 9,383 bytes of standard input.
+fn plan_file() -> Result<Vec<u8>, String> {
+    let mut bytes = Vec::new();
+    let most = program::READ_AT_MOST as u64;
+    io::stdin()
+        .take(most)
+        .read_to_end(&mut bytes)
+        .map_err(|error| format!("cannot read: {error}"))?;
+    Ok(bytes)
+}
+
+fn read_plan() -> Result<kinds::Plan, String> {
+    file::read(&plan_file()?, kinds::MOST_RESOURCES, kinds::MOST_TASKS).map_err(refused)
+}
+
+fn refused(refusal: kinds::Refusal) -> String {
+    program::refused_text(refusal).trim_end().to_string()
+}
+
+fn print(bytes: &[u8]) -> Result<(), String> {
+    let mut out = io::stdout().lock();
+    out.write_all(bytes)
+        .and_then(|()| out.flush())
+        .map_err(|error| format!("cannot write: {error}"))
+}

@@ -1,0 +1,44 @@
+//! The planning program's output text for one plan file.
+
+use crate::fault::Fault;
+use crate::file;
+use crate::kinds::*;
+use crate::steps;
+
+/// "The planning program reads at most 9,383 bytes of a plan file from standard
+/// input (one more than the longest file, so a longer one gets its refusal)".
+pub const READ_AT_MOST: usize = file::LONGEST + 1;
+
+/// Exactly what the planning program prints for these input bytes.
+pub fn answer(input: &[u8], fault: Option<Fault>) -> String {
+    let bytes = &input[..input.len().min(READ_AT_MOST)];
+    match settled(bytes, fault) {
+        Ok((passes, plan)) => settled_text(passes, &plan),
+        Err(refusal) => refused_text(refusal),
+    }
+}
+
+fn settled(bytes: &[u8], fault: Option<Fault>) -> Result<(u64, Plan), Refusal> {
+    let mut plan = file::read(bytes, MOST_RESOURCES, MOST_TASKS)?;
+    let passes = steps::settle(&mut plan, fault)?;
+    Ok((passes, plan))
+}
+
+/// "Line one: the word and the pass count. Each task line: place, set as a
+/// number, then low and high of origin, duration, end, height."
+fn settled_text(passes: u64, plan: &Plan) -> String {
+    let mut text = format!("settled {passes}\n");
+    for (place, task) in plan.tasks.iter().enumerate() {
+        text += &format!("{place} {}", task.set);
+        for (low, high) in [task.origin, task.duration, task.end, task.height] {
+            text += &format!(" {low} {high}");
+        }
+        text += "\n";
+    }
+    text
+}
+
+/// "`refused`, number, place, with single spaces, as `refused 7 0`."
+pub fn refused_text(refusal: Refusal) -> String {
+    format!("refused {} {}\n", refusal.number, refusal.place)
+}

@@ -1,0 +1,93 @@
+//! Written files read back; made streams are the same for one seed, broad, and
+//! find every planted fault.
+
+mod support;
+
+use second::fault::FAULTS;
+use second::file::{read, write, LONGEST};
+use second::make::{plan_file, stream};
+use second::program::answer;
+use second::random::Random;
+use std::collections::BTreeMap;
+use support::small_plan;
+
+const SEED: u64 = 3;
+const COUNT: u64 = 1_500;
+
+#[test]
+fn what_is_written_reads_back() {
+    for n in 0..500 {
+        let plan = small_plan(&mut Random::new(31, n));
+        let mut buffer = vec![9; 300];
+        let length = write(&plan, &mut buffer).unwrap();
+        let (resources, tasks) = (plan.resources.len(), plan.tasks.len());
+        assert_eq!(length, 6 + 10 * resources + 36 * tasks);
+        assert!(buffer[length..].iter().all(|byte| *byte == 9));
+        assert_eq!(read(&buffer[..length], resources, tasks), Ok(plan));
+    }
+}
+
+#[test]
+fn what_is_read_writes_the_same_bytes() {
+    let mut sound = 0;
+    for n in 0..COUNT {
+        let file = plan_file(SEED, n);
+        let Ok(plan) = read(&file, 16, 256) else {
+            continue;
+        };
+        let mut buffer = vec![0; file.len()];
+        assert_eq!(write(&plan, &mut buffer), Ok(file.len()));
+        assert_eq!(buffer, file);
+        sound += 1;
+    }
+    assert!(sound > COUNT / 2);
+}
+
+#[test]
+fn a_stream_is_the_same_for_one_seed() {
+    assert_eq!(stream(7, 200), stream(7, 200));
+    assert_ne!(stream(7, 200), stream(8, 200));
+    assert_eq!(stream(7, 200)[..], stream(7, 300)[..stream(7, 200).len()]);
+}
+
+#[test]
+fn a_stream_is_broad() {
+    let mut heads: BTreeMap<String, u64> = BTreeMap::new();
+    let mut longest = 0;
+    for n in 0..COUNT {
+        let file = plan_file(SEED, n);
+        assert!(file.len() <= LONGEST + 1);
+        longest = longest.max(file.len());
+        let answer = answer(&file, None);
+        let head: Vec<&str> = answer.lines().next().unwrap().split(' ').collect();
+        *heads.entry(format!("{} {}", head[0], head[1])).or_default() += 1;
+    }
+    assert_eq!(longest, LONGEST + 1);
+    for number in [1, 2, 3, 4, 5, 6, 8, 9] {
+        assert!(
+            heads.contains_key(&format!("refused {number}")),
+            "{number}: {heads:?}"
+        );
+    }
+    let settled: u64 = heads
+        .iter()
+        .filter(|(head, _)| head.starts_with("settled"))
+        .map(|(_, n)| n)
+        .sum();
+    let unchanged = heads["settled 1"];
+    assert!(unchanged > COUNT / 10, "{heads:?}");
+    assert!(settled - unchanged > COUNT / 10, "{heads:?}");
+    assert!(heads["refused 7"] > COUNT / 10, "{heads:?}");
+}
+
+#[test]
+fn every_planted_fault_changes_answers() {
+    for (name, fault) in FAULTS {
+        let differs = |n: &u64| {
+            let file = plan_file(SEED, *n);
+            answer(&file, None) != answer(&file, Some(fault))
+        };
+        let changed = (0..COUNT).filter(differs).count();
+        assert!(changed > 5, "{name}: {changed}");
+    }
+}
