@@ -17,3 +17,4 @@ pub mod Checks
 pub mod Listings
 pub mod Keeps
 pub mod Passes
+pub mod FixedSteps

@@ -5,4 +5,5 @@ pub mod Balance
 pub mod Step
 pub mod Settle
 pub mod Moves
+pub mod Fixed
 pub mod Calls
