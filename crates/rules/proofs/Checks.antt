@@ -74,6 +74,22 @@ pub accepts-live : (n : ℕ) {ts : List Task} → Accepts n ts → Lives ts
 accepts-live n no-tasks = no-lives
 accepts-live n (more-tasks {t} h g f) = more-lives (live-fits n t h g) (accepts-live n f)
 
+-- no set names a place beyond the first m
+pub data Smalls (m : ℕ) : List Task → Type 0 where
+  no-smalls : Smalls m []
+  more-smalls : {t : Task} {ts : List Task} → t .set < 2 ^ m → Smalls m ts → Smalls m (t ∷ ts)
+
+pub set-below : (n : ℕ) (t : Task) → setFits n t ≡ true → t .set < 2 ^ n
+unfolding setFits
+set-below n t h = ltb→lt (t .set) (2 ^ n) (subst T (sym (and-second (not (eqb (t .set) 0)) (ltb (t .set) (2 ^ n)) h)) tt)
+
+accepts-small : (n : ℕ) → n ≤ 64 → {ts : List Task} → Accepts n ts → Smalls 64 ts
+accepts-small n l no-tasks = no-smalls
+accepts-small n l (more-tasks {t} h g f) =
+    more-smalls {t = t}
+    (let a = set-below n t g in let b : 2 ^ n ≤ 2 ^ 64 = pow-le-pow-right {n = 2} (omega arith) {i = n} {j = 64} l in omega arith)
+    (accepts-small n l f)
+
 -- ---- a task inside another
 span-kept : (a b : ℤ) (s u : Span) → Sub (daysOf u) (daysOf s) → u .low .0 ≤ℤ u .high .0 → spanFits a b s ≡ true → spanFits a b u ≡ true
 unfolding spanFits
@@ -114,10 +130,6 @@ ranges-kept t u h l e =
 true-of : (b : Bool) → T b → b ≡ true
 true-of true t = refl
 true-of false t = absurd t
-
-pub set-below : (n : ℕ) (t : Task) → setFits n t ≡ true → t .set < 2 ^ n
-unfolding setFits
-set-below n t h = ltb→lt (t .set) (2 ^ n) (subst T (sym (and-second (not (eqb (t .set) 0)) (ltb (t .set) (2 ^ n)) h)) tt)
 
 set-kept : (n : ℕ) (t u : Task) → SubTask u t → Live u → setFits n t ≡ true → setFits n u ≡ true
 unfolding setFits
@@ -182,6 +194,9 @@ module _ (qs : List Resource) (ts : List Task) (h : check qs ts ≡ Accepted) wh
 
   pub check-live : Lives ts
   check-live = accepts-live (length qs) check-accepts
+
+  pub check-small : Smalls 64 ts
+  check-small = accepts-small (length qs) (let a = check-resources in omega arith) check-accepts
 
   -- a plan inside an accepted one, with nothing empty, is accepted again
   pub check-kept : (us : List Task) → Subs us ts → Lives us → check qs us ≡ Accepted

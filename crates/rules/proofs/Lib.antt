@@ -18,3 +18,6 @@ pub mod Checks
 pub mod Listings
 pub mod Keeps
 pub mod Passes
+pub mod FixedSteps
+pub mod FixedPass
+pub mod Rooms

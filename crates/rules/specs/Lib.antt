@@ -5,5 +5,6 @@ pub mod Balance
 pub mod Step
 pub mod Settle
 pub mod Moves
+pub mod Fixed
 pub mod Calls
 pub mod Cases

@@ -9,7 +9,7 @@ use Rattle.rules.specs.Allowed.{limitOn}
 use Rattle.rules.specs.Balance.{Outcome, balance}
 use Rattle.rules.specs.Balance.Outcome.{Plan}
 use Rattle.rules.specs.Step.{resourceStep}
-use Rattle.rules.specs.Settle.{then}
+use Rattle.rules.specs.Settle.{then, pass}
 
 pub data Move : Type 0 where
   Balance : Move
@@ -28,3 +28,8 @@ move sense qs (StepOf place) ts = stepOf sense 0 place qs ts
 unfoldable pub play : Sense → List Resource → List Move → List Task → Outcome
 play sense qs [] ts = Plan ts
 play sense qs (m ∷ ms) ts = then (move sense qs m ts) (play sense qs ms)
+
+-- so many passes, one after another
+unfoldable pub passes : ℕ → Sense → List Resource → List Task → Outcome
+passes zero sense qs ts = Plan ts
+passes (suc n) sense qs ts = then (pass sense qs ts) (passes n sense qs)
