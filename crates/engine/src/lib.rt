@@ -69,7 +69,7 @@ pub enum Settling {
 
 // the limit as the steps see it
 fn limit_facing(sense: Sense, q: &[[i64; 2]], r: usize) -> Power
-    requires { ⌜ (r < length (now q)) × (powerFits ((getD (resourcesOf (now q)) r noResource) .limit) ≡ true) ⌝ }
+    requires { ⌜ (r < length (now q)) × (powerFits ((getD (resourcesFacing sense (resourcesOf (now q))) r noResource) .limit) ≡ true) ⌝ }
     ensures { λ p. ⌜ p ≡ (getD (resourcesFacing sense (resourcesOf (now (q .entry)))) r noResource) .limit ⌝ }
 {
     let p = rows::limit_at(q, r);
@@ -99,7 +99,7 @@ fn step_due(
     spare: &mut [u64],
     ss: &mut [[i64; 4]],
 ) -> Passed
-    requires { ⌜ (r < length (now q)) × (p .ok ≡ true) × (check (resourcesOf (now q)) (tasksOf (now s)) ≡ Accepted) ⌝ }
+    requires { ⌜ (r < length (now q)) × (p .ok ≡ true) × (check (resourcesFacing sense (resourcesOf (now q))) (tasksOf (now s)) ≡ Accepted) ⌝ }
     requires { ⌜ Idle (p .mask) (resourcesFacing sense (resourcesOf (now q))) (tasksOf (now s)) ⌝ }
     requires { ⌜ Roomy (length (now keys)) (length (now spare)) (length (now ss)) ⌝ }
     ensures outcome { λ o. ⌜ outcomeOf (o .ok) (tasksOf (now (s .exit))) ≡ atLeastStep r (limitOn (getD (resourcesFacing sense (resourcesOf (now (q .entry)))) r noResource)) (tasksOf (now (s .entry))) ⌝ }
@@ -129,7 +129,7 @@ pub fn pass_rows(
     spare: &mut [u64],
     ss: &mut [[i64; 4]],
 ) -> Passed
-    requires { ⌜ check (resourcesOf (now q)) (tasksOf (now s)) ≡ Accepted ⌝ }
+    requires { ⌜ check (resourcesFacing sense (resourcesOf (now q))) (tasksOf (now s)) ≡ Accepted ⌝ }
     requires { ⌜ Idle mask (resourcesFacing sense (resourcesOf (now q))) (tasksOf (now s)) ⌝ }
     requires { ⌜ Roomy (length (now keys)) (length (now spare)) (length (now ss)) ⌝ }
     ensures outcome { λ o. ⌜ outcomeOf (o .ok) (tasksOf (now (s .exit))) ≡ pass AtLeast (resourcesFacing sense (resourcesOf (now (q .entry)))) (tasksOf (now (s .entry))) ⌝ }
@@ -161,7 +161,7 @@ pub fn settle_rows(
     spare: &mut [u64],
     ss: &mut [[i64; 4]],
 ) -> Settling
-    requires { ⌜ check (resourcesOf (now q)) (tasksOf (now s)) ≡ Accepted ⌝ }
+    requires { ⌜ check (resourcesFacing sense (resourcesOf (now q))) (tasksOf (now s)) ≡ Accepted ⌝ }
     requires { ⌜ Roomy (length (now keys)) (length (now spare)) (length (now ss)) ⌝ }
     ensures { λ o. ⌜ settledOf o (tasksOf (now (s .exit))) ≡ settle AtLeast (resourcesFacing sense (resourcesOf (now (q .entry)))) (tasksOf (now (s .entry))) ⌝ }
 {
