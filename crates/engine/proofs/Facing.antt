@@ -3,12 +3,14 @@ use mathlib.Core.Path.{_≡_, refl, sym, ap, _∙_}
 use mathlib.Core.List.{List, [], _∷_, map}
 use Prim.Native.Nat.{ℕ, zero, suc, _<_}
 use native.Mathlib.Nat.{not-suc-le-zero, le-of-suc-le-suc}
+use lib.IntN.{negℤ}
 use lib.ListN.{length, getD}
 use Rattle.integers.proofs.Loops.{map-at}
 use Rattle.plan.specs.declared.Task.{Task}
 use Rattle.plan.specs.declared.Resource.{Resource}
 use Rattle.plan.specs.declared.Sense.{Sense}
 use Rattle.plan.specs.declared.Sense.the-variants.{AtMost, AtLeast}
+use Rattle.plan.specs.Powers.{power}
 use Rattle.rules.specs.Step.{negated}
 use Rattle.rules.specs.Settle.{Settled, settle}
 use Rattle.rules.specs.Calls.{check}
@@ -54,3 +56,12 @@ tasks-back AtMost ts = rw (tasks-most, tasks-most) (negateds-back ts)
 pub check-facing : (sense : Sense) (qs : List Resource) (ts : List Task) → check (resourcesFacing sense qs) (tasksFacing sense ts) ≡ check qs ts
 check-facing AtLeast qs ts = rw (resources-least, tasks-least)
 check-facing AtMost qs ts = rw (resources-most, tasks-most) (check-negated qs ts)
+
+-- the limit as the steps see it
+pub limit-least : (sense : Sense) (qs : List Resource) (r : ℕ) → r < length qs → sense ≡ AtLeast → (getD (resourcesFacing sense qs) r noResource) .limit ≡ (getD qs r noResource) .limit
+unfolding facing
+limit-least sense qs r h e = rw (facing-at sense qs r h, e)
+
+pub limit-most : (sense : Sense) (qs : List Resource) (r : ℕ) → r < length qs → sense ≡ AtMost → (getD (resourcesFacing sense qs) r noResource) .limit ≡ power (negℤ ((getD qs r noResource) .limit .0))
+unfolding facing
+limit-most sense qs r h e = rw (facing-at sense qs r h, e)

@@ -1,4 +1,4 @@
 -- The laws of the engine: what faces it, the mask, the steps of a pass, and the passes of settling.
 pub mod Facing
 pub mod Passing
-pub mod Settling
+pub mod Passes

@@ -33,14 +33,12 @@ unfolding stepsFrom
 steps-end r [] ts h = drop-none r
   where
     drop-none : (r : ℕ) → stepsFrom AtLeast r (drop r []) ts ≡ Plan ts
-    unfolding stepsFrom
     drop-none zero = refl
     drop-none (suc r) = refl
 steps-end zero (q ∷ qs) ts h = absurd (not-suc-le-zero h)
 steps-end (suc r) (q ∷ qs) ts h = shift r qs (le-of-suc-le-suc h)
   where
     shift : (k : ℕ) (qs : List Resource) → length qs ≤ k → stepsFrom AtLeast (suc r) (drop k qs) ts ≡ Plan ts
-    unfolding stepsFrom
     shift zero [] l = refl
     shift zero (p ∷ ps) l = absurd (not-suc-le-zero l)
     shift (suc k) [] l = refl
