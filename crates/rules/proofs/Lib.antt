@@ -21,3 +21,6 @@ pub mod Passes
 pub mod FixedSteps
 pub mod FixedPass
 pub mod Rooms
+pub mod Ends
+pub mod Unlisted
+pub mod Elsewhere
