@@ -12,7 +12,7 @@ ghost use Rattle.plan.specs.declared.Sense.the-variants.{AtLeast};
 ghost use Rattle.rules.specs.Allowed.{limitOn};
 ghost use Rattle.rules.specs.Balance.{balance};
 ghost use Rattle.rules.specs.Step.{atLeastStep};
-ghost use Rattle.rules.specs.Settle.{sameTasks, pass, settle};
+ghost use Rattle.rules.specs.Settle.{sameTasks, stepsFrom, pass, settle};
 ghost use Rattle.rules.specs.Calls.{check};
 ghost use Rattle.rules.specs.Calls.Checked.{Accepted};
 ghost use Rattle.rows.specs.View.{tasksOf, resourcesOf, noResource};
@@ -119,6 +119,34 @@ fn step_due(
     }
 }
 
+// Each resource's step in list order, on what balance left.
+fn steps_rows(
+    sense: Sense,
+    q: &[[i64; 2]],
+    s: &mut [[i64; 9]],
+    first: Passed,
+    keys: &mut [u64],
+    spare: &mut [u64],
+    ss: &mut [[i64; 4]],
+) -> Passed
+    requires { ⌜ (first .ok ≡ true) × (check (resourcesFacing sense (resourcesOf (now q))) (tasksOf (now s)) ≡ Accepted) ⌝ }
+    requires { ⌜ Idle (first .mask) (resourcesFacing sense (resourcesOf (now q))) (tasksOf (now s)) ⌝ }
+    requires { ⌜ Roomy (length (now keys)) (length (now spare)) (length (now ss)) ⌝ }
+    ensures outcome { λ o. ⌜ outcomeOf (o .ok) (tasksOf (now (s .exit))) ≡ stepsFrom AtLeast 0 (resourcesFacing sense (resourcesOf (now (q .entry)))) (tasksOf (now (s .entry))) ⌝ }
+    ensures noted { λ o. ⌜ (o .ok ≡ true → Noted (resourcesFacing sense (resourcesOf (now (q .entry)))) (tasksOf (now (s .entry))) (tasksOf (now (s .exit))) (first .changed) (o .changed) (o .mask)) ⌝ }
+{
+    let mut p = first;
+    let mut r: usize = 0;
+    while r < q.len() {
+        if !p.ok {
+            return p;
+        }
+        p = step_due(sense, q, s, r, p, keys, spare, ss);
+        r += 1;
+    }
+    p
+}
+
 // Balance, then each resource's step.
 pub fn pass_rows(
     sense: Sense,
@@ -136,20 +164,15 @@ pub fn pass_rows(
     ensures noted { λ o. ⌜ (o .ok ≡ true → Noted (resourcesFacing sense (resourcesOf (now (q .entry)))) (tasksOf (now (s .entry))) (tasksOf (now (s .exit))) false (o .changed) (o .mask)) ⌝ }
 {
     let b = balance_rows(s);
-    let mut p = Passed {
+    let first = Passed {
         ok: b.ok,
         changed: some_touched(false, b.touched),
         mask: mask | b.touched,
     };
-    let mut r: usize = 0;
-    while r < q.len() {
-        if !p.ok {
-            return p;
-        }
-        p = step_due(sense, q, s, r, p, keys, spare, ss);
-        r += 1;
+    if !b.ok {
+        return first;
     }
-    p
+    steps_rows(sense, q, s, first, keys, spare, ss)
 }
 
 // Passes until one changes nothing.

@@ -51,7 +51,7 @@ then-same (Plan us) k k' h = h us
 abbrev pub onePass : ℕ → List Move
 onePass n = Balance ∷ map StepOf (places 0 n)
 
-steps-play : (sense : Sense) (qs : List Resource) (r : ℕ) (ps : List Resource) → ((k : ℕ) (q : Resource) → ResourceAt q k r ps → ResourceAt q k 0 qs) → (ts : List Task) → stepsFrom sense r ps ts ≡ play sense qs (map StepOf (places r (length ps))) ts
+pub steps-play : (sense : Sense) (qs : List Resource) (r : ℕ) (ps : List Resource) → ((k : ℕ) (q : Resource) → ResourceAt q k r ps → ResourceAt q k 0 qs) → (ts : List Task) → stepsFrom sense r ps ts ≡ play sense qs (map StepOf (places r (length ps))) ts
 unfolding stepsFrom play places
 steps-play sense qs r [] f ts = refl
 steps-play sense qs r (q ∷ ps) f ts =

@@ -1,105 +1,141 @@
+-- Balance, then the steps on what it left; where balance finds no plan, so does the pass.
+use borrow.Author.Needs.{needs}
+use mathlib.Core.Path.{_≡_, refl, sym, ap, _∙_, subst}
+use Prim.Native.Nat.{ℕ}
+use mathlib.Core.Bool.{Bool, true, false, not}
+use mathlib.Core.List.{List}
+use lib.Dec.{eqb}
+use Rattle.integers.specs.Tests.{or}
+use Rattle.integers.proofs.Tests.{clash}
+use Rattle.plan.specs.declared.Sense.the-variants.{AtLeast}
+use Rattle.plan.specs.declared.Resource.{Resource}
+use Rattle.plan.specs.declared.Task.{Task}
+use Rattle.rules.specs.Balance.{balance}
+use Rattle.rules.specs.Balance.Outcome.{Plan}
+use Rattle.rules.specs.Settle.{stepsFrom}
+use Rattle.rules.proofs.Keeps.{Keeps}
+use Rattle.rows.specs.View.{tasksOf, resourcesOf, noTask}
+use Rattle.rows.specs.Changes.{outcomeOf, union, touchedBy}
+use Rattle.rows.proofs.Fits.{accepts}
+use Rattle.engine.specs.Facing.{resourcesFacing}
+use Rattle.engine.specs.Mask.{Noted}
+use Rattle.engine.proofs.Mask.{balance-keeps, balance-noted}
+use Rattle.engine.proofs.Passing.{noted-more, steps-keep, pass-none, pass-plan}
 use Rattle.engine.proofs.pass_rows.Statement.{statement}
 use Rattle.engine.proofs.pass_rows.Tie as tie
-use Rattle.engine.proofs.pass_rows.Reads as reads
-use Rattle.engine.proofs.pass_rows.Lts as lts
-use Rattle.engine.proofs.balance_rows.Reads as balance-rows-reads
-use Rattle.engine.proofs.some_touched.Reads as some-touched-reads
-use Rattle.engine.proofs.step_due.Reads as step-due-reads
 
-abbrev Inv-loop : tie.InvT-loop
-Inv-loop sense q s₀ mask keys₀ spare₀ ss₀ p₀ r₀ s keys spare ss p r = ?
+abbrev qs : tie.Start → List Resource
+qs c = resourcesFacing (c .args .sense) (resourcesOf (c .args .q .now))
 
-abbrev μ-loop : tie.MeasureT-loop
-μ-loop sense q s₀ mask keys₀ spare₀ ss₀ p₀ r₀ s keys spare ss p r = ?
+abbrev ts : tie.Start → List Task
+ts c = tasksOf (c .args .s .now)
 
--- src/lib.rt:138:9
-balance-rows-requires : tie.Need-balance-rows-requires Inv-loop μ-loop
-balance-rows-requires c κs = ?
+not-true : (b : Bool) → not b ≡ true → b ≡ false
+not-true true h = sym h
+not-true false h = refl
 
--- src/lib.rt:141:18
-some-touched-requires : tie.Need-some-touched-requires Inv-loop μ-loop
-some-touched-requires c κs = ?
+is-true : (b : Bool) → not b ≡ false → b ≡ true
+is-true true h = refl
+is-true false h = sym h
 
--- src/lib.rt:145:5
-loop-holds : tie.Need-loop-holds Inv-loop μ-loop
-loop-holds c = ?
+-- what balance left, where it left a plan
+module _ (c : tie.After-balance-rows) (ok : c .balance-rows .result .ok ≡ true) where
+  abbrev start : tie.Start
+  start = c .before .before .before .before
 
--- src/lib.rt:147:13
-same-length : tie.Need-same-length Inv-loop μ-loop
-same-length c = ?
+  abbrev us : List Task
+  us = tasksOf (c .balance-rows .last .0)
 
--- src/lib.rt:147:13
-same-length-2 : tie.Need-same-length-2 Inv-loop μ-loop
-same-length-2 c = ?
+  plan : balance (ts start) ≡ Plan us
+  plan = sym (c .balance-rows .ensures .0) ∙ ap (λ (x : Bool). outcomeOf x us) ok
 
--- src/lib.rt:147:13
-same-length-3 : tie.Need-same-length-3 Inv-loop μ-loop
-same-length-3 c = ?
+  keeps : Keeps AtLeast (qs start) (ts start) us
+  keeps = balance-keeps (qs start) (ts start) us (start .pre .0) plan
 
--- src/lib.rt:147:13
-same-length-4 : tie.Need-same-length-4 Inv-loop μ-loop
-same-length-4 c = ?
+  noted : Noted (qs start) (ts start) us false (or false (not (eqb (c .balance-rows .result .touched) 0))) (union (start .args .mask) (c .balance-rows .result .touched))
+  noted =
+      subst (λ (x : ℕ). Noted (qs start) (ts start) us false (or false (not (eqb x 0))) (union (start .args .mask) x)) (sym (c .balance-rows .ensures .1 ok))
+      (balance-noted (qs start) (ts start) us (start .pre .0) keeps (start .args .mask) false (start .pre .1 .0))
 
--- src/lib.rt:147:13
-returns : tie.Need-returns Inv-loop μ-loop
-returns c = ?
+balance-rows-requires : tie.Need-balance-rows-requires
+balance-rows-requires c κs =
+    let b = c .before .before .before in
+    λ k l. accepts (qs b) (ts b) (b .pre .0) .tasks noTask k l .ranges
 
--- src/lib.rt:149:9
-step-due-requires : tie.Need-step-due-requires Inv-loop μ-loop
-step-due-requires c κs = ?
+-- src/lib.rt:169:18
+some-touched-requires : tie.Need-some-touched-requires
+some-touched-requires c κs = search needs
 
--- src/lib.rt:150:9
-add-r : tie.Need-add-r Inv-loop μ-loop
-add-r c = ?
+-- src/lib.rt:173:9
+same-length : tie.Need-same-length
+same-length c = search needs
 
--- src/lib.rt:145:5
-loop-less : tie.Need-loop-less Inv-loop μ-loop
-loop-less c = ?
+-- src/lib.rt:173:9
+returns : tie.Need-returns
+returns c =
+    let d = c .before .before .before .before .before in
+    let b = c .before .before .before .before .before .before .before .before .before in
+    let no = not-true (d .balance-rows .result .ok) (c .if1 .taken) in
+    (
+      pass-none (qs b) (ts b) (b .pre .0) (d .balance-rows .result .ok) (tasksOf (d .balance-rows .last .0)) (d .balance-rows .ensures .0) no,
+      λ h. clash (d .balance-rows .result .ok) h no,
+    )
 
--- src/lib.rt:145:5
-loop-again : tie.Need-loop-again Inv-loop μ-loop
-loop-again c = ?
+-- src/lib.rt:175:5
+steps-rows-requires : tie.Need-steps-rows-requires
+unfolding union
+steps-rows-requires c κs =
+    let d = c .before .before .before .before .before .before .before .before .before in
+    let b = c .before .before .before .before .before .before .before .before .before .before .before .before .before in
+    let ok = is-true (d .balance-rows .result .ok) (c .before .before .before .before .if1 .left) in
+    ((ok, keeps d ok .accepted), (noted d ok .idle, b .pre .1 .1))
 
--- src/lib.rt:123:1
-same-length-5 : tie.Need-same-length-5 Inv-loop μ-loop
-same-length-5 c = ?
+-- src/lib.rt:151:1
+same-length-2 : tie.Need-same-length-2
+same-length-2 c = search needs
 
--- src/lib.rt:123:1
-same-length-6 : tie.Need-same-length-6 Inv-loop μ-loop
-same-length-6 c = ?
+-- src/lib.rt:151:1
+same-length-3 : tie.Need-same-length-3
+same-length-3 c = search needs
 
--- src/lib.rt:123:1
-same-length-7 : tie.Need-same-length-7 Inv-loop μ-loop
-same-length-7 c = ?
+-- src/lib.rt:151:1
+same-length-4 : tie.Need-same-length-4
+same-length-4 c = search needs
 
--- src/lib.rt:123:1
-same-length-8 : tie.Need-same-length-8 Inv-loop μ-loop
-same-length-8 c = ?
+-- src/lib.rt:151:1
+same-length-5 : tie.Need-same-length-5
+same-length-5 c = search needs
 
--- src/lib.rt:123:1
-returns-2 : tie.Need-returns-2 Inv-loop μ-loop
-returns-2 c = ?
+-- src/lib.rt:151:1
+returns-2 : tie.Need-returns-2
+unfolding union
+returns-2 c =
+    let e = c .before .before .before .before .before .before in
+    let d = c .before .before .before .before .before .before .before .before .before .before .before .before .before .before .before .before in
+    let b = c .before .before .before .before .before .before .before .before .before .before .before .before .before .before .before .before .before .before .before .before in
+    let ok = is-true (d .balance-rows .result .ok) (c .before .before .before .before .before .before .before .before .before .before .before .if1 .left) in
+    let us = tasksOf (d .balance-rows .last .0) in
+    let vs = tasksOf (e .steps-rows .last .1 .1 .0) in
+    let k = keeps d ok in
+    (
+      e .steps-rows .ensures .0 ∙ sym (pass-plan (qs b) (ts b) (b .pre .0) us (plan d ok)),
+      λ h.
+      let g = steps-keep (qs b) us (k .accepted) vs (sym (e .steps-rows .ensures .0) ∙ ap (λ (x : Bool). outcomeOf x vs) h) in
+      noted-more (qs b) (ts b) (b .pre .0) us vs k g false (c .before .before .before .before .before .before .before .before .before .before .before .before .before .before .some-touched .result) (e .steps-rows .result .changed) (union (b .args .mask) (d .balance-rows .result .touched)) (e .steps-rows .result .mask)
+      (rw (c .before .before .before .before .before .before .before .before .before .before .before .before .before .before .some-touched .ensures) (noted d ok)) (e .steps-rows .ensures .1 h),
+    )
 
 pub pass-rows-spec : {M : Type 1} → statement M
 pass-rows-spec =
     tie.close
     (tie.spec
-    Inv-loop
-    μ-loop
     balance-rows-requires
     some-touched-requires
-    loop-holds
     same-length
+    returns
+    steps-rows-requires
     same-length-2
     same-length-3
     same-length-4
-    returns
-    step-due-requires
-    add-r
-    loop-less
-    loop-again
     same-length-5
-    same-length-6
-    same-length-7
-    same-length-8
     returns-2)
