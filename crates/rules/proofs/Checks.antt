@@ -18,13 +18,15 @@ use Rattle.plan.specs.declared.Span.{Span}
 use Rattle.plan.specs.declared.PowerSpan.{PowerSpan}
 use Rattle.plan.specs.declared.Resource.{Resource}
 use Rattle.plan.specs.declared.Refusal.{Refusal}
-use Rattle.plan.specs.declared.Refusal.the-variants.{TooManyTasks, ResourceCount, RangeOutside, SetOutside}
+use Rattle.plan.specs.declared.Refusal.the-variants.{TooManyTasks, ResourceCount, LimitOutside, RangeOutside, SetOutside}
 use Rattle.plan.specs.Days.{daysOf, dayLow, dayHigh, durationLow, durationHigh, spanFits}
-use Rattle.plan.specs.Powers.{powerLow, powerHigh, powersOf, powersFit}
+use Rattle.plan.specs.Powers.{powerLow, powerHigh, powersOf, powersFit, powerFits}
 use Rattle.plan.specs.Sets.{has}
 use Rattle.plan.proofs.Sets.{SubSet, sub-le}
 use Rattle.rules.specs.Calls.{Checked, orElse, refuseIf, rangesFit, setFits, tasksFit, check, repeats, limits, mostTasks, mostResources}
 use Rattle.rules.specs.Calls.Checked.{Accepted, Refuse}
+use Rattle.rules.proofs.Limits.{ResourceAt}
+use Rattle.rules.proofs.Limits.ResourceAt.{first, next}
 use Rattle.rules.proofs.Live.{Live, Lives, live-fits}
 use Rattle.rules.proofs.Live.Lives.{no-lives, more-lives}
 use Rattle.rules.proofs.Subs.{SubTask, Subs, subs-length}
@@ -207,3 +209,15 @@ module _ (qs : List Resource) (ts : List Task) (h : check qs ts ≡ Accepted) wh
 
       same : check qs us ≡ check qs ts
       same = check-same qs us ts (subs-length s) fits
+
+-- the limit of each resource of the list lies within its ends
+limit-at : (q : Resource) (r k : ℕ) (qs : List Resource) → ResourceAt q r k qs → limits k qs ≡ Accepted → powerFits (q .limit) ≡ true
+unfolding limits
+limit-at q r k qs (first {qs = ps}) h =
+    not-not (powerFits (q .limit))
+    (refuse-not (not (powerFits (q .limit))) (LimitOutside k) (or-else-first (refuseIf (not (powerFits (q .limit))) (LimitOutside k)) (limits (suc k) ps) h))
+limit-at q r k qs (next {p} {qs = ps} at) h =
+    limit-at q r (suc k) ps at (or-else-second (refuseIf (not (powerFits (p .limit))) (LimitOutside k)) (limits (suc k) ps) h)
+
+pub check-limit : (qs : List Resource) (ts : List Task) → check qs ts ≡ Accepted → (r : ℕ) (q : Resource) → ResourceAt q r 0 qs → powerFits (q .limit) ≡ true
+check-limit qs ts h r q at = limit-at q r 0 qs at (check-limits qs ts h)

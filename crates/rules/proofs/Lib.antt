@@ -23,3 +23,6 @@ pub mod Rooms
 pub mod Ends
 pub mod Unlisted
 pub mod Elsewhere
+pub mod Still
+pub mod Sizes
+pub mod Theorems

@@ -22,11 +22,15 @@ use Rattle.plan.specs.Days.{daysOf, spanOf}
 use Rattle.plan.specs.Powers.{powersOf, powerSpanOf}
 use Rattle.plan.specs.Sets.{size}
 use Rattle.plan.proofs.Sets.{eqb-in, eqb-true, size-le, size-same, size-some, some-place, sub-le}
+use Rattle.rules.specs.Balance.{balance}
+use Rattle.rules.specs.Balance.Outcome.{Plan}
+use Rattle.rules.specs.Step.{resourceStep}
 use Rattle.rules.specs.Settle.{sameRange, sameTask, sameTasks, width, room, rooms}
 use Rattle.rules.proofs.Live.{Live, Lives}
 use Rattle.rules.proofs.Live.Lives.{no-lives, more-lives}
 use Rattle.rules.proofs.Subs.{SubTask, Subs}
 use Rattle.rules.proofs.Subs.Subs.{no-subs, more-subs}
+use Rattle.rules.proofs.Shrinks.{Shrunk, balance-shrunk, resource-step-shrunk}
 use Rattle.rules.proofs.Checks.{Smalls, check-live, check-small}
 use Rattle.rules.proofs.Checks.Smalls.{no-smalls, more-smalls}
 use Rattle.rules.specs.Calls.{check}
@@ -57,7 +61,7 @@ same-range-is a b h =
     ap₂ (λ (x y : ℤ). record { low = x; high = y }) (eqZ-is (a .low) (b .low) (and-first (eqZ (a .low) (b .low)) (eqZ (a .high) (b .high)) h))
     (eqZ-is (a .high) (b .high) (and-second (eqZ (a .low) (b .low)) (eqZ (a .high) (b .high)) h))
 
-same-task-is : (a b : Task) → sameTask a b ≡ true → a ≡ b
+pub same-task-is : (a b : Task) → sameTask a b ≡ true → a ≡ b
 unfolding sameTask
 same-task-is a b h =
     let s = eqb (a .set) (b .set) in
@@ -162,7 +166,36 @@ pub less-changed : (us ts : List Task) → rooms us < rooms ts → sameTasks ts 
 less-changed us ts h =
     false-in (sameTasks ts us) (λ e. let q : rooms ts ≡ rooms us = ap rooms (same-tasks-is ts us e) in omega arith)
 
--- ---- so for every step and sequence of steps
+-- ---- what one step does to the room of a list of which nothing is empty, for a loop over the steps
+pub smalls-kept : (m : ℕ) {us ts : List Task} → Subs us ts → Smalls m ts → Smalls m us
+smalls-kept m no-subs no-smalls = no-smalls
+smalls-kept m (more-subs {u} {t} h f) (more-smalls q s) =
+    more-smalls {t = u} (let a = sub-le (u .set) (t .set) (h .set) in omega arith) (smalls-kept m f s)
+
+pub record Less (ts us : List Task) : Type 0 where
+  pub inside : Subs us ts
+  pub lives : Lives us
+  pub small : Smalls 64 us
+  pub never-more : rooms us ≤ rooms ts
+  pub less : sameTasks ts us ≡ false → rooms us < rooms ts
+
+shrunk-less : {ts us : List Task} → Smalls 64 ts → Shrunk ts (Plan us) → Less ts us
+shrunk-less s h =
+    record {
+      inside = h .0;
+      lives = h .1;
+      small = smalls-kept 64 (h .0) s;
+      never-more = rooms-le (h .0) (h .1);
+      less = rooms-less (h .0) (h .1) s;
+    }
+
+pub balance-less : (ts us : List Task) → Lives ts → Smalls 64 ts → balance ts ≡ Plan us → Less ts us
+balance-less ts us l s e = shrunk-less s (subst (Shrunk ts) e (balance-shrunk l))
+
+pub step-less : (sense : Sense) (r : ℕ) (limit : ℤ → ℤ) (ts us : List Task) → Smalls 64 ts → resourceStep sense r limit ts ≡ Plan us → Less ts us
+step-less sense r limit ts us s e = shrunk-less s (subst (Shrunk ts) e (resource-step-shrunk sense r limit ts))
+
+-- ---- so for every sequence of steps
 module _ (sense : Sense) (qs : List Resource) (ts us : List Task) (a : check qs ts ≡ Accepted) (h : Keeps sense qs ts us) where
   pub keeps-rooms : rooms us ≤ rooms ts
   keeps-rooms = rooms-le (h .inside) (check-live qs us (h .accepted))
