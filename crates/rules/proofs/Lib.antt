@@ -2,6 +2,7 @@
 pub mod Days
 pub mod Walk
 pub mod Live
+pub mod Possible
 pub mod Quiet
 pub mod Negation
 pub mod Inside
@@ -25,4 +26,5 @@ pub mod Unlisted
 pub mod Elsewhere
 pub mod Still
 pub mod Sizes
+pub mod Once
 pub mod Theorems

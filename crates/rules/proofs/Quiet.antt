@@ -21,6 +21,7 @@ use Rattle.plan.specs.Sets.{has, only, without}
 use Rattle.plan.proofs.Sets.{only-is, has-alone}
 use Rattle.rules.specs.Step.{possible, running, sure, others, counts, needed, barred, shut, keepsOrigin, keepsDuration, keepsEnd, keepsHeight, neededSet, keptSet, narrowed}
 use Rattle.rules.proofs.Live.{Live}
+use Rattle.rules.proofs.Possible.{no-need, no-bar}
 
 -- a test that passes every value leaves the whole range
 pub left-all : (p : ℤ → Bool) (s : Range) → s .low ≤ℤ s .high → p (s .low) ≡ true → p (s .high) ≡ true → left p s ≡ Some s
@@ -100,16 +101,10 @@ module _ (r : ℕ) (limit : ℤ → ℤ) (ts : List Task) (t : Task) (away : has
   sure-away i = rw only-away
 
   pub quiet-away : (i : ℤ) → Quiet r limit ts t i
-  unfolding needed barred
   quiet-away i =
-      let rest = and (ltZ (pos 0) (t .height .high .0)) (ltZ (others r ts t i) (limit i)) in
       record {
-        need =
-            false-in (and (counts r ts i) (and (possible r i t) rest)) λ n.
-            clash (possible r i t) (and-first (possible r i t) rest (and-second (counts r ts i) (and (possible r i t) rest) n)) (possible-away i);
-        bar =
-            false-in (and (possible r i t) (ltZ (others r ts t i +ℤ t .height .high .0) (limit i))) λ b.
-            clash (possible r i t) (and-first (possible r i t) (ltZ (others r ts t i +ℤ t .height .high .0) (limit i)) b) (possible-away i);
+        need = no-need r i t limit ts (possible-away i);
+        bar = no-bar r i t limit ts (possible-away i);
         height = λ s. clash (sure r i t) s (sure-away i);
       }
 

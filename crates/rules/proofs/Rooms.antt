@@ -202,10 +202,3 @@ module _ (sense : Sense) (qs : List Resource) (ts us : List Task) (a : check qs 
 
   pub keeps-less : sameTasks ts us ≡ false → rooms us < rooms ts
   keeps-less e = rooms-less (h .inside) (check-live qs us (h .accepted)) (check-small qs ts a) e
-
-  -- a change is not undone by what follows
-  pub change-stays : (vs : List Task) → Keeps sense qs us vs → sameTasks ts us ≡ false → sameTasks ts vs ≡ false
-  change-stays vs g e =
-      let x = keeps-less e in
-      let y = rooms-le (g .inside) (check-live qs vs (g .accepted)) in
-      less-changed vs ts (omega arith)

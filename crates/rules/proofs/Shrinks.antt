@@ -31,6 +31,7 @@ use Rattle.rules.specs.Step.{orRanOut, possible, running, others, counts
 use Rattle.rules.specs.Settle.{then, stepsFrom, pass}
 use Rattle.rules.proofs.Live.{Live, Lives, lives-negated}
 use Rattle.rules.proofs.Live.Lives.{no-lives, more-lives}
+use Rattle.rules.proofs.Possible.{possible-has, needed-possible}
 use Rattle.rules.proofs.Subs.{SubTask, Subs, subs-self, subs-trans, subs-back}
 use Rattle.rules.proofs.Subs.Subs.{no-subs, more-subs}
 
@@ -64,19 +65,11 @@ left-shrunk t v s Nothing k h g f = tt
 left-shrunk t v s (Some x) k h g f = f x h g
 
 module _ (r : ℕ) (limit : ℤ → ℤ) (ts : List Task) (days : List ℤ) where
-  needed-has : (t : Task) (i : ℤ) → needed r limit ts t i ≡ true → has (t .set) r ≡ true
-  unfolding needed possible
-  needed-has t i h =
-      let rest = and (ltZ (pos 0) (t .height .high .0)) (ltZ (others r ts t i) (limit i)) in
-      let when = and (leZ (t .origin .low .0) i) (ltZ i (t .end .high .0)) in
-      and-first (has (t .set) r) when
-      (and-first (and (has (t .set) r) when) rest (and-second (counts r ts i) (and (and (has (t .set) r) when) rest) h))
-
   needed-sub : (t : Task) → SubSet (neededSet r limit ts days t) (t .set)
   unfolding neededSet
   needed-sub t k =
       if-case (λ s. has s k ≡ true → has (t .set) k ≡ true) (any (needed r limit ts t) days) (2 ^ r) (t .set)
-      (λ n h. let e = any-out (needed r limit ts t) days n in rw (alone-only r k h) (needed-has t (e .0) (e .1)))
+      (λ n h. let e = any-out (needed r limit ts t) days n in rw (alone-only r k h) (possible-has r (e .0) t (needed-possible r (e .0) t limit ts (e .1))))
       (λ n h. h)
 
   pub kept-sub : (t : Task) → SubSet (keptSet r limit ts days t) (t .set)

@@ -19,7 +19,7 @@ use Rattle.rules.specs.Calls.Checked.{Accepted}
 use Rattle.rules.proofs.Limits.{ResourceAt}
 use Rattle.rules.proofs.Limits.ResourceAt.{first, next}
 use Rattle.rules.proofs.Keeps.{Keeps, Sound, move-sound, play-sound}
-use Rattle.rules.proofs.Rooms.{same-tasks-is, same-tasks-self, change-stays}
+use Rattle.rules.proofs.Rooms.{keeps-rooms, keeps-less, less-changed}
 
 steps-still : (sense : Sense) (r : ℕ) (qs : List Resource) (ts : List Task) → ((k : ℕ) (q : Resource) → ResourceAt q k r qs → resourceStep sense k (limitOn q) ts ≡ Plan ts) → stepsFrom sense r qs ts ≡ Plan ts
 unfolding stepsFrom
@@ -37,7 +37,13 @@ module _ (sense : Sense) (qs : List Resource) where
   keeps-of : (ts us : List Task) (o : Outcome) → o ≡ Plan us → Sound sense qs ts o → Keeps sense qs ts us
   keeps-of ts us o e h = subst (Sound sense qs ts) e h
 
-  pub change-seen : (m : Move) (ms : List Move) (ts us vs : List Task) → check qs ts ≡ Accepted → move sense qs m ts ≡ Plan us → play sense qs ms us ≡ Plan vs → sameTasks ts us ≡ false → sameTasks ts vs ≡ false
-  change-seen m ms ts us vs a e f h =
-      let first-step = keeps-of ts us (move sense qs m ts) e (move-sound sense qs m ts a) in
-      change-stays sense qs ts us a first-step vs (keeps-of us vs (play sense qs ms us) f (play-sound sense qs ms us (first-step .accepted))) h
+  -- after some steps a step changes something, and others follow
+  pub change-seen : (ms : List Move) (m : Move) (ns : List Move) (ts us vs ws : List Task) → check qs ts ≡ Accepted → play sense qs ms ts ≡ Plan us → move sense qs m us ≡ Plan vs → play sense qs ns vs ≡ Plan ws → sameTasks us vs ≡ false → sameTasks ts ws ≡ false
+  change-seen ms m ns ts us vs ws a e f g h =
+      let before = keeps-of ts us (play sense qs ms ts) e (play-sound sense qs ms ts a) in
+      let at = keeps-of us vs (move sense qs m us) f (move-sound sense qs m us (before .accepted)) in
+      let after = keeps-of vs ws (play sense qs ns vs) g (play-sound sense qs ns vs (at .accepted)) in
+      let x = keeps-rooms sense qs ts us a before in
+      let y = keeps-less sense qs us vs (before .accepted) at h in
+      let w = keeps-rooms sense qs vs ws (at .accepted) after in
+      less-changed ws ts (omega arith)
