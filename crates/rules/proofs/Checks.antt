@@ -1,17 +1,17 @@
 -- What the entry checks say of every task, and that a plan inside an accepted one is accepted again.
-use mathlib.Core.Path.{_≡_, refl, sym, ap, _∙_, subst}
-use Prim.Native.Nat.{ℕ, zero, suc, _+_, _^_, _≤_, _<_}
+use mathlib.Core.Path.{_≡_, refl, sym, _∙_, subst}
+use Prim.Native.Nat.{ℕ, suc, _^_, _≤_, _<_}
 use native.Mathlib.Omega.{arith}
 use native.Mathlib.Nat.{pow-le-pow-right}
 use mathlib.Core.List.{List, [], _∷_}
 use mathlib.Core.Bool.{Bool, true, false, not}
 use lib.IntN.{ℤ}
-use lib.Signed.{leZ, ltZ, _≤ℤ_}
+use lib.Signed.{leZ, _≤ℤ_}
 use lib.Dec.{T, eqb, ltb, ltb→lt, nltb→le, lt→ltb}
 use lib.ListN.{length}
 use Rattle.integers.specs.Tests.{and, or}
 use Rattle.integers.proofs.Z.{z, leZ-in}
-use Rattle.integers.proofs.Tests.{by-cases, clash, and-first, and-second, and-in, not-out}
+use Rattle.integers.proofs.Tests.{clash, and-first, and-second}
 use Rattle.integers.proofs.Hull.{Sub}
 use Rattle.plan.specs.declared.Task.{Task}
 use Rattle.plan.specs.declared.Span.{Span}
@@ -21,8 +21,7 @@ use Rattle.plan.specs.declared.Refusal.{Refusal}
 use Rattle.plan.specs.declared.Refusal.the-variants.{TooManyTasks, ResourceCount, LimitOutside, RangeOutside, SetOutside}
 use Rattle.plan.specs.Days.{daysOf, dayLow, dayHigh, durationLow, durationHigh, spanFits}
 use Rattle.plan.specs.Powers.{powerLow, powerHigh, powersOf, powersFit, powerFits}
-use Rattle.plan.specs.Sets.{has}
-use Rattle.plan.proofs.Sets.{SubSet, sub-le}
+use Rattle.plan.proofs.Sets.{sub-le}
 use Rattle.rules.specs.Calls.{Checked, orElse, refuseIf, rangesFit, setFits, tasksFit, check, repeats, limits, mostTasks, mostResources}
 use Rattle.rules.specs.Calls.Checked.{Accepted, Refuse}
 use Rattle.rules.proofs.Limits.{ResourceAt}

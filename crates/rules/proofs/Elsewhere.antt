@@ -1,16 +1,16 @@
 -- A change elsewhere does not concern r: where the step of r changes nothing on ts, it changes nothing on ts with some tasks replaced,
 -- if none of those has r in its set, before or after.
 use mathlib.Core.Path.{_≡_, refl, sym, ap, ap₂, _∙_, subst}
-use Prim.Native.Nat.{ℕ, zero, suc, _+_, _^_}
+use Prim.Native.Nat.{ℕ, _^_}
 use native.Mathlib.Omega.{arith}
 use mathlib.Core.List.{List, [], _∷_}
 use mathlib.Core.Bool.{Bool, true, false, not}
-use lib.IntN.{ℤ, pos, _+ℤ_, _-ℤ_, +ℤ-idl}
-use lib.Signed.{leZ, ltZ, _≤ℤ_, _<ℤ_}
-use Rattle.integers.specs.Tests.{if, and, or, implies, filter, all, any}
+use lib.IntN.{ℤ, pos, _+ℤ_, _-ℤ_}
+use lib.Signed.{leZ, ltZ}
+use Rattle.integers.specs.Tests.{if, and, or, implies, all, any}
 use Rattle.integers.specs.Sums.{sumOf}
 use Rattle.integers.specs.Hull.{Range, hull, values, left}
-use Rattle.integers.proofs.Tests.{clash, by-cases, if-case, false-in, same-test, implies-in, and-in, and-first, and-second, not-in, not-out, not-any, or-left, all-in, any-none, filter-same}
+use Rattle.integers.proofs.Tests.{clash, by-cases, if-case, false-in, same-test, and-first, and-second, not-out, not-any, or-left, all-in, any-none, filter-same}
 use Rattle.plan.specs.declared.Task.{Task}
 use Rattle.plan.specs.declared.Narrowed.{Narrowed}
 use Rattle.plan.specs.declared.Narrowed.the-variants.{Kept, RanOut}
@@ -26,7 +26,7 @@ use Rattle.rules.proofs.Days.{In, every-day}
 use Rattle.rules.proofs.Days.In.{head, tail}
 use Rattle.rules.proofs.Live.{Live, Lives}
 use Rattle.rules.proofs.Live.Lives.{no-lives, more-lives}
-use Rattle.rules.proofs.Subs.{SubTask, Subs}
+use Rattle.rules.proofs.Subs.{Subs}
 use Rattle.rules.proofs.Subs.Subs.{no-subs, more-subs}
 use Rattle.rules.proofs.Rooms.{same-task-is}
 use Rattle.rules.proofs.Shrinks.{Shrunk, resource-step-shrunk}

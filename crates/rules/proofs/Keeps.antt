@@ -1,11 +1,10 @@
 -- Every step, and any sequence of steps, keeps the allowed plans of an accepted plan: the very same list, in the same order, inside
 -- an accepted plan whose ranges lie in the old ones; and with no plan there was none.
-use mathlib.Core.Path.{_≡_, refl, sym, ap, _∙_, subst}
-use Prim.Native.Nat.{ℕ, zero, suc, _+_}
+use mathlib.Core.Path.{_≡_, refl, sym, _∙_, subst}
+use Prim.Native.Nat.{ℕ, zero, suc}
 use native.Mathlib.Omega.{arith}
 use mathlib.Core.List.{List, [], _∷_}
-use mathlib.Core.Bool.{Bool, true, false}
-use lib.IntN.{ℤ}
+use mathlib.Core.Bool.{true}
 use Rattle.plan.specs.declared.Task.{Task}
 use Rattle.plan.specs.declared.Resource.{Resource}
 use Rattle.plan.specs.declared.Sense.{Sense}
@@ -26,7 +25,6 @@ use Rattle.rules.proofs.Stays.{PlanStays}
 use Rattle.rules.proofs.BalanceSound.{balance-stays}
 use Rattle.rules.proofs.AtMostSound.{resource-step-stays}
 use Rattle.rules.proofs.Subs.{Subs, subs-self, subs-trans}
-use Rattle.rules.proofs.Live.{Lives}
 use Rattle.rules.proofs.Shrinks.{Shrunk, balance-shrunk, resource-step-shrunk}
 use Rattle.rules.proofs.Checks.{check-live, check-kept}
 use Rattle.rules.proofs.Listings.{plans-kept, plans-none}

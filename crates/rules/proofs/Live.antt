@@ -1,10 +1,10 @@
 -- A task of which something is left: no range and no set is empty. The entry checks say so of every task of a plan.
-use mathlib.Core.Path.{_≡_, refl, sym, ap, _∙_, subst}
-use Prim.Native.Nat.{ℕ, zero, suc, _+_, _^_, _≤_, _<_}
+use mathlib.Core.Path.{_≡_}
+use Prim.Native.Nat.{ℕ, _^_}
 use mathlib.Core.List.{List, [], _∷_, map}
-use mathlib.Core.Bool.{Bool, true, false, not}
-use lib.IntN.{ℤ, negℤ}
-use lib.Signed.{leZ, ltZ, _≤ℤ_}
+use mathlib.Core.Bool.{true, false, not}
+use lib.IntN.{ℤ}
+use lib.Signed.{leZ, _≤ℤ_}
 use lib.Dec.{eqb, ltb}
 use Rattle.integers.specs.Tests.{and}
 use Rattle.integers.proofs.Z.{z, ~z}

@@ -3,10 +3,10 @@ use mathlib.Core.Path.{_≡_, refl, sym, ap, _∙_, subst}
 use Prim.Native.Nat.{ℕ, zero, suc, _+_, _^_, _≤_, _<_}
 use native.Mathlib.Omega.{arith}
 use mathlib.Core.List.{List, [], _∷_, map}
-use mathlib.Core.Bool.{Bool, true, false, not}
+use mathlib.Core.Bool.{true, false, not}
 use lib.IntN.{ℤ, pos, _-ℤ_}
 use lib.Dec.{T, ltb, ltb→lt, nltb→le}
-use Rattle.integers.specs.Tests.{and, filter}
+use Rattle.integers.specs.Tests.{filter}
 use Rattle.integers.specs.Hull.{range, upFrom, countOf, values}
 use Rattle.integers.proofs.Z.{z, -z}
 use Rattle.integers.proofs.Tests.{clash, by-cases, false-in, and-first, and-second}

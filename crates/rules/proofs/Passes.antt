@@ -1,12 +1,9 @@
 -- A pass is a sequence of steps, settling is passes in a row: so what holds of sequences holds of both.
 use mathlib.Core.Path.{_≡_, refl, sym, ap, _∙_, subst}
-use Prim.Native.Nat.{ℕ, zero, suc, _+_, _≤_, _<_}
+use Prim.Native.Nat.{ℕ, zero, suc, _+_}
 use native.Mathlib.Omega.{arith}
 use mathlib.Core.List.{List, [], _∷_, _++_, map}
-use mathlib.Core.Bool.{Bool, true, false}
-use lib.IntN.{ℤ}
 use lib.ListN.{length}
-use Rattle.integers.specs.Tests.{if}
 use Rattle.integers.proofs.Tests.{if-case}
 use Rattle.plan.specs.declared.Task.{Task}
 use Rattle.plan.specs.declared.Resource.{Resource}
@@ -18,14 +15,14 @@ use Rattle.rules.specs.Balance.Outcome.{NoPlan, Plan}
 use Rattle.rules.specs.Step.{resourceStep}
 use Rattle.rules.specs.Settle.{then, stepsFrom, pass, sameTasks, Settled, onePassMore, unlessSame, settleWithin}
 use Rattle.rules.specs.Settle.Settled.{Refused, After, Unsettled}
-use Rattle.rules.specs.Moves.{Move, stepOf, move, play}
+use Rattle.rules.specs.Moves.{Move, stepOf, move, play, passes}
 use Rattle.rules.specs.Moves.Move.{Balance, StepOf}
 use Rattle.rules.specs.Calls.{check}
 use Rattle.rules.specs.Calls.Checked.{Accepted}
 use Rattle.rules.proofs.Limits.{ResourceAt}
 use Rattle.rules.proofs.Limits.ResourceAt.{first, next}
 use Rattle.rules.proofs.Subs.{subs-trans}
-use Rattle.rules.proofs.Keeps.{Keeps, Sound, play-sound, then-sound}
+use Rattle.rules.proofs.Keeps.{Keeps, Sound, play-sound}
 
 -- ---- the step of a place of the list
 step-of-place : (sense : Sense) (q : Resource) (r k : ℕ) (qs : List Resource) → ResourceAt q r k qs → (j : ℕ) × (r ≡ k + j) × ((ts : List Task) → stepOf sense k j qs ts ≡ resourceStep sense r (limitOn q) ts)
@@ -66,6 +63,30 @@ pass-play sense qs ts =
 
 pub pass-sound : (sense : Sense) (qs : List Resource) (ts : List Task) → check qs ts ≡ Accepted → Sound sense qs ts (pass sense qs ts)
 pass-sound sense qs ts a = subst (Sound sense qs ts) (sym (pass-play sense qs ts)) (play-sound sense qs (onePass (length qs)) ts a)
+
+-- ---- passes in a row
+play-append : (sense : Sense) (qs : List Resource) (ms ns : List Move) (ts : List Task) → play sense qs (ms ++ ns) ts ≡ then (play sense qs ms ts) (play sense qs ns)
+unfolding play
+play-append sense qs [] ns ts = refl
+play-append sense qs (m ∷ ms) ns ts =
+    then-same (move sense qs m ts) (play sense qs (ms ++ ns)) (λ us. then (play sense qs ms us) (play sense qs ns)) (play-append sense qs ms ns)
+    ∙ sym (then-then (move sense qs m ts))
+  where
+    then-then : (o : Outcome) → then (then o (play sense qs ms)) (play sense qs ns) ≡ then o (λ us. then (play sense qs ms us) (play sense qs ns))
+    then-then NoPlan = refl
+    then-then (Plan us) = refl
+
+abbrev pub manyPasses : ℕ → ℕ → List Move
+manyPasses zero n = []
+manyPasses (suc k) n = onePass n ++ manyPasses k n
+
+pub passes-play : (k : ℕ) (sense : Sense) (qs : List Resource) (ts : List Task) → passes k sense qs ts ≡ play sense qs (manyPasses k (length qs)) ts
+unfolding passes play
+passes-play zero sense qs ts = refl
+passes-play (suc k) sense qs ts =
+    then-same (pass sense qs ts) (passes k sense qs) (play sense qs (manyPasses k (length qs))) (passes-play k sense qs)
+    ∙ ap (λ (o : Outcome). then o (play sense qs (manyPasses k (length qs)))) (pass-play sense qs ts)
+    ∙ sym (play-append sense qs (onePass (length qs)) (manyPasses k (length qs)) ts)
 
 -- ---- settling
 abbrev pub SettledSound : Sense → List Resource → List Task → Settled → Type 0

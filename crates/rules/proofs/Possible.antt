@@ -1,9 +1,9 @@
 -- Every rule of a resource speaks only of days on which the task is possible there.
-use mathlib.Core.Path.{_≡_, refl, sym, ap, _∙_, subst}
-use Prim.Native.Nat.{ℕ, zero, suc, _+_, _^_}
-use mathlib.Core.List.{List, [], _∷_}
+use mathlib.Core.Path.{_≡_, refl}
+use Prim.Native.Nat.{ℕ}
+use mathlib.Core.List.{List}
 use mathlib.Core.Bool.{Bool, true, false}
-use lib.IntN.{ℤ, pos, _+ℤ_}
+use lib.IntN.{ℤ}
 use lib.Signed.{leZ, ltZ, _≤ℤ_, _<ℤ_}
 use Rattle.integers.specs.Tests.{and}
 use Rattle.integers.proofs.Z.{z, leZ-in, ltZ-in}
@@ -11,7 +11,7 @@ use Rattle.integers.proofs.Tests.{clash, by-cases, false-in, and-first, and-sec
 use Rattle.plan.specs.declared.Task.{Task}
 use Rattle.plan.specs.Sets.{has, only}
 use Rattle.plan.proofs.Sets.{only-is, has-alone}
-use Rattle.rules.specs.Step.{possible, running, sure, others, counts, needed, barred, shut}
+use Rattle.rules.specs.Step.{possible, running, sure, needed, barred, shut}
 use Rattle.rules.proofs.Live.{Live}
 
 -- nothing follows a test that fails

@@ -1,25 +1,23 @@
 -- A task that no rule touches on any day stays as it is: its set and ranges come out as they entered.
-use mathlib.Core.Path.{_≡_, refl, sym, ap, _∙_, subst}
-use Prim.Native.Nat.{ℕ, zero, suc, _+_, _^_}
-use mathlib.Core.List.{List, [], _∷_}
-use mathlib.Core.Bool.{Bool, true, false, not}
-use lib.IntN.{ℤ, pos, _+ℤ_, _-ℤ_}
-use lib.Signed.{leZ, ltZ, _≤ℤ_}
-use lib.Dec.{eqb}
-use Rattle.integers.specs.Tests.{if, and, implies, all, any}
-use Rattle.integers.specs.Hull.{Range, range, within, left}
+use mathlib.Core.Path.{_≡_}
+use Prim.Native.Nat.{ℕ}
+use mathlib.Core.List.{List}
+use mathlib.Core.Bool.{Bool, true, false}
+use lib.IntN.{ℤ, _-ℤ_}
+use lib.Signed.{_≤ℤ_}
+use Rattle.integers.specs.Tests.{and, implies, all}
+use Rattle.integers.specs.Hull.{Range, left}
 use Rattle.integers.specs.Hull.Left.{Some}
 use Rattle.integers.proofs.Z.{z, leZ-in}
-use Rattle.integers.proofs.Tests.{clash, by-cases, and-first, and-second, and-in, implies-in, all-in, any-none, false-in}
-use Rattle.integers.proofs.Hull.{Within, left-is}
+use Rattle.integers.proofs.Tests.{clash, and-first, and-second, and-in, implies-in, all-in, any-none, false-in}
+use Rattle.integers.proofs.Hull.{left-is}
 use Rattle.plan.specs.declared.Task.{Task}
-use Rattle.plan.specs.declared.Narrowed.{Narrowed}
-use Rattle.plan.specs.declared.Narrowed.the-variants.{Kept, RanOut}
+use Rattle.plan.specs.declared.Narrowed.the-variants.{Kept}
 use Rattle.plan.specs.Days.{daysOf}
 use Rattle.plan.specs.Powers.{powersOf}
-use Rattle.plan.specs.Sets.{has, only, without}
+use Rattle.plan.specs.Sets.{has, only}
 use Rattle.plan.proofs.Sets.{only-is, has-alone}
-use Rattle.rules.specs.Step.{possible, running, sure, others, counts, needed, barred, shut, keepsOrigin, keepsDuration, keepsEnd, keepsHeight, neededSet, keptSet, narrowed}
+use Rattle.rules.specs.Step.{possible, running, sure, others, needed, barred, shut, keepsOrigin, keepsDuration, keepsEnd, keepsHeight, neededSet, keptSet, narrowed}
 use Rattle.rules.proofs.Live.{Live}
 use Rattle.rules.proofs.Possible.{no-need, no-bar}
 

@@ -1,18 +1,18 @@
 -- What could still be removed: it never grows, and a list with as much room as before is the same list. So a step that changes
 -- something takes room away.
-use mathlib.Core.Path.{_≡_, refl, sym, ap, ap₂, _∙_, subst}
-use Prim.Native.Nat.{ℕ, zero, suc, _+_, _-_, _^_, _≤_, _<_}
+use mathlib.Core.Path.{_≡_, refl, sym, ap, ap₂, subst}
+use Prim.Native.Nat.{ℕ, _^_, _≤_, _<_}
 use native.Mathlib.Omega.{arith}
 use mathlib.Core.List.{List, [], _∷_}
-use mathlib.Core.Bool.{Bool, true, false, not}
+use mathlib.Core.Bool.{true, false, not}
 use lib.IntN.{ℤ, pos, negsuc, _-ℤ_, natAbs}
-use lib.Signed.{leZ, ltZ, _≤ℤ_}
+use lib.Signed.{_≤ℤ_}
 use lib.Dec.{T, eqb, leb, leb→le, nleb→lt}
 use Rattle.integers.specs.Whole.{eqZ}
 use Rattle.integers.specs.Tests.{and}
 use Rattle.integers.specs.Hull.{Range}
-use Rattle.integers.proofs.Z.{z, up, dn, -z, eqZ-in, eqZ-is}
-use Rattle.integers.proofs.Tests.{clash, by-cases, false-in, and-first, and-second, and-in}
+use Rattle.integers.proofs.Z.{z, up, -z, eqZ-in, eqZ-is}
+use Rattle.integers.proofs.Tests.{clash, by-cases, false-in, and-first, and-second}
 use Rattle.integers.proofs.Hull as hull
 use Rattle.integers.proofs.Hull.{Sub, width-le, width-same}
 use Rattle.plan.specs.declared.Task.{Task}
@@ -20,7 +20,6 @@ use Rattle.plan.specs.declared.Resource.{Resource}
 use Rattle.plan.specs.declared.Sense.{Sense}
 use Rattle.plan.specs.Days.{daysOf, spanOf}
 use Rattle.plan.specs.Powers.{powersOf, powerSpanOf}
-use Rattle.plan.specs.Sets.{size}
 use Rattle.plan.proofs.Sets.{eqb-in, eqb-true, size-le, size-same, size-some, some-place, sub-le}
 use Rattle.rules.specs.Balance.{balance}
 use Rattle.rules.specs.Balance.Outcome.{Plan}

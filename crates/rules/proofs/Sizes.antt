@@ -1,17 +1,17 @@
 -- How large the numbers of a step get: sums of hopes, and limit - others, stay within 256,000,000 of 0.
-use mathlib.Core.Path.{_≡_, refl, sym, ap, _∙_, subst}
-use Prim.Native.Nat.{ℕ, zero, suc, _+_, _*_, _≤_, _<_}
+use mathlib.Core.Path.{_≡_, refl, ap}
+use Prim.Native.Nat.{ℕ, suc, _*_}
 use native.Mathlib.Omega.{arith}
-use mathlib.Core.List.{List, [], _∷_}
-use mathlib.Core.Bool.{Bool, true, false}
+use mathlib.Core.List.{List}
+use mathlib.Core.Bool.{true}
 use lib.IntN.{ℤ, pos, _+ℤ_, _-ℤ_}
-use lib.Signed.{leZ, ltZ, _≤ℤ_}
+use lib.Signed.{leZ, ltZ}
 use lib.ListN.{length}
 use mir.Syntax.{w64}
 use mir.Val.{SFits}
-use Rattle.integers.specs.Tests.{if, and}
+use Rattle.integers.specs.Tests.{and}
 use Rattle.integers.specs.Sums.{sumOf}
-use Rattle.integers.proofs.Z.{z, up, dn, +z, -z}
+use Rattle.integers.proofs.Z.{z, +z, -z}
 use Rattle.integers.proofs.Tests.{if-case, and-first, and-second}
 use Rattle.integers.proofs.Sums.{Near}
 use Rattle.plan.specs.declared.Power.{Power}
@@ -22,7 +22,7 @@ use Rattle.plan.specs.Days.{dayLow, dayHigh, durationLow, durationHigh, spanFit
 use Rattle.plan.specs.Powers.{powerLow, powerHigh, powersFit, powerFits}
 use Rattle.rules.specs.Allowed.{limitOn}
 use Rattle.rules.specs.Step.{possible, sure, hope, total, others}
-use Rattle.rules.specs.Calls.{rangesFit, check, mostTasks}
+use Rattle.rules.specs.Calls.{rangesFit, check}
 use Rattle.rules.specs.Calls.Checked.{Accepted}
 use Rattle.rules.proofs.Days.{In}
 use Rattle.rules.proofs.Days.In.{head, tail}

@@ -1,16 +1,15 @@
 -- A pass whose single steps all change nothing changes nothing; a step that changes something is seen at the end, whatever follows.
-use mathlib.Core.Path.{_≡_, refl, sym, ap, _∙_, subst}
-use Prim.Native.Nat.{ℕ, zero, suc, _+_, _≤_, _<_}
+use mathlib.Core.Path.{_≡_, refl, ap, _∙_, subst}
+use Prim.Native.Nat.{ℕ, suc}
 use native.Mathlib.Omega.{arith}
 use mathlib.Core.List.{List, [], _∷_}
-use mathlib.Core.Bool.{Bool, true, false}
-use Rattle.integers.proofs.Tests.{clash, by-cases}
+use mathlib.Core.Bool.{false}
 use Rattle.plan.specs.declared.Task.{Task}
 use Rattle.plan.specs.declared.Resource.{Resource}
 use Rattle.plan.specs.declared.Sense.{Sense}
 use Rattle.rules.specs.Allowed.{limitOn}
 use Rattle.rules.specs.Balance.{Outcome, balance}
-use Rattle.rules.specs.Balance.Outcome.{NoPlan, Plan}
+use Rattle.rules.specs.Balance.Outcome.{Plan}
 use Rattle.rules.specs.Step.{resourceStep}
 use Rattle.rules.specs.Settle.{then, stepsFrom, pass, sameTasks}
 use Rattle.rules.specs.Moves.{Move, move, play}

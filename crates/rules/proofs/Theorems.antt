@@ -1,21 +1,21 @@
 -- What follows from the page alone, as statements; the proofs are in the other files. `plans sense qs ts` lists every allowed plan
 -- inside the sets and ranges of ts, `count` is its length, `check qs ts ≡ Accepted` says that ts passes the entry checks, `Subs us ts`
 -- that each set and range of us lies inside that of ts. Nothing is asked of the ranges beyond the checks: they may be unbalanced.
-use mathlib.Core.Path.{_≡_, refl, sym, ap, _∙_, subst}
-use Prim.Native.Nat.{ℕ, zero, suc, _+_, _≤_, _<_}
+use mathlib.Core.Path.{_≡_, ap, subst}
+use Prim.Native.Nat.{ℕ, suc, _+_, _≤_, _<_}
 use mathlib.Core.List.{List, [], _∷_, map}
-use mathlib.Core.Bool.{Bool, true, false}
+use mathlib.Core.Bool.{true, false}
 use lib.ListN.{length}
-use Rattle.integers.specs.Tests.{if, all}
+use Rattle.integers.specs.Tests.{if, filter, all}
 use Rattle.plan.specs.declared.Task.{Task}
 use Rattle.plan.specs.declared.Resource.{Resource}
 use Rattle.plan.specs.declared.Sense.{Sense}
 use Rattle.rules.specs.Allowed.{Choice, insideAll, limitOn, allowed}
-use Rattle.rules.specs.Listing.{plans, count}
-use Rattle.rules.specs.Balance.{Outcome, balance}
+use Rattle.rules.specs.Listing.{listing, plans, count}
+use Rattle.rules.specs.Balance.{balance}
 use Rattle.rules.specs.Balance.Outcome.{NoPlan, Plan}
 use Rattle.rules.specs.Step.{resourceStep}
-use Rattle.rules.specs.Settle.{pass, Settled, settle, sameTasks, rooms}
+use Rattle.rules.specs.Settle.{pass, settle, sameTasks, rooms}
 use Rattle.rules.specs.Settle.Settled.{Refused, After, Unsettled}
 use Rattle.rules.specs.Moves.{Move, move, play, passes}
 use Rattle.rules.specs.Fixed.{fixed, oneValue, oneResource}
@@ -24,13 +24,14 @@ use Rattle.rules.specs.Calls.Checked.{Accepted}
 use Rattle.rules.proofs.Limits.{ResourceAt}
 use Rattle.rules.proofs.Subs.{Subs}
 use Rattle.rules.proofs.Keeps.{Keeps, Sound, balance-sound, step-sound, play-sound, move-sound}
-use Rattle.rules.proofs.Passes.{onePass, pass-play, pass-sound, SettledSound, settle-sound}
+use Rattle.rules.proofs.Passes.{onePass, pass-play, manyPasses, passes-play, pass-sound, SettledSound, settle-sound}
 use Rattle.rules.proofs.FixedPass.{pass-fixed, some-choice, pass-one-choice}
 use Rattle.rules.proofs.Rooms.{keeps-less}
+use Rattle.rules.proofs.Once.{Placed, once}
 use Rattle.rules.proofs.Ends.{Ended, settle-ends}
 
 -- us holds exactly the allowed plans of ts, passes the checks and lies inside ts
-abbrev Same : Sense → List Resource → List Task → List Task → Type 0
+abbrev pub Same : Sense → List Resource → List Task → List Task → Type 0
 Same sense qs ts us = (plans sense qs us ≡ plans sense qs ts) × (check qs us ≡ Accepted) × Subs us ts
 
 kept : {sense : Sense} {qs : List Resource} {ts us : List Task} → Keeps sense qs ts us → Same sense qs ts us
@@ -61,6 +62,10 @@ module _ (sense : Sense) (qs : List Resource) (ts : List Task) (ok : check qs ts
   -- a pass is such a sequence
   pub pass-is-sequence : pass sense qs ts ≡ play sense qs (onePass (length qs)) ts
   pass-is-sequence = pass-play sense qs ts
+
+  -- and so are passes in a row, of which settling is made (settle-bound, refusal-bound)
+  pub passes-are-sequence : (k : ℕ) → passes k sense qs ts ≡ play sense qs (manyPasses k (length qs)) ts
+  passes-are-sequence k = passes-play k sense qs ts
 
   pub pass-keeps : (us : List Task) → pass sense qs ts ≡ Plan us → Same sense qs ts us
   pass-keeps us e = kept (subst (Sound sense qs ts) e (pass-sound sense qs ts ok))
@@ -119,3 +124,7 @@ module _ (sense : Sense) (qs : List Resource) (ts : List Task) (ok : check qs ts
 -- the same for a choice written as such, with no check
 pub fixed-choice-listed : (sense : Sense) (qs : List Resource) (cs : List Choice) → pass sense qs (map fixed cs) ≡ if (allowed sense qs cs) (Plan (map fixed cs)) NoPlan
 fixed-choice-listed sense qs cs = pass-fixed sense qs cs
+
+-- the listing that is counted has each choice inside the sets and ranges, on the first n resources, exactly once
+pub listed-once : (n : ℕ) (ts : List Task) (cs : List Choice) → insideAll ts cs ≡ true → Placed n cs → filter (insideAll (map fixed cs)) (listing n ts) ≡ cs ∷ []
+listed-once n ts cs h p = once n ts cs h p

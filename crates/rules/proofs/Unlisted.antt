@@ -1,22 +1,20 @@
 -- A day outside the listed ones, from the least origin low to the greatest end high, changes nothing: no rule speaks of it.
-use mathlib.Core.Path.{_≡_, refl, sym, ap, _∙_, subst}
-use Prim.Native.Nat.{ℕ, zero, suc, _+_, _^_}
+use mathlib.Core.Path.{_≡_, refl, sym, _∙_}
+use Prim.Native.Nat.{ℕ}
 use mathlib.Core.List.{List, [], _∷_}
-use mathlib.Core.Bool.{Bool, true, false, not}
-use lib.IntN.{ℤ, pos, _+ℤ_}
-use lib.Signed.{leZ, ltZ, _≤ℤ_, _<ℤ_}
+use mathlib.Core.Bool.{true, false, not}
+use lib.IntN.{ℤ}
+use lib.Signed.{ltZ}
 use Rattle.integers.specs.Whole.{eqZ}
-use Rattle.integers.specs.Tests.{and, or, any}
-use Rattle.integers.proofs.Z.{z, leZ-in, ltZ-in, eqZ-in}
-use Rattle.integers.proofs.Tests.{clash, by-cases, false-in, and-first, and-second, and-in, not-out, or-left, not-any}
+use Rattle.integers.specs.Tests.{any}
+use Rattle.integers.proofs.Z.{eqZ-in}
+use Rattle.integers.proofs.Tests.{clash, by-cases, false-in, and-first, not-out, or-left, not-any}
 use Rattle.plan.specs.declared.Task.{Task}
-use Rattle.plan.specs.Sets.{has, only}
-use Rattle.plan.proofs.Sets.{only-is, has-alone}
-use Rattle.rules.specs.Step.{possible, running, sure, total, others, counts, shortfall, needed, barred, shut, listedDays}
+use Rattle.rules.specs.Step.{possible, sure, total, counts, shortfall, needed, barred, listedDays}
 use Rattle.rules.proofs.Days.{In, listed}
 use Rattle.rules.proofs.Days.In.{head, tail}
 use Rattle.rules.proofs.Live.{Live, Lives}
-use Rattle.rules.proofs.Live.Lives.{no-lives, more-lives}
+use Rattle.rules.proofs.Live.Lives.{more-lives}
 use Rattle.rules.proofs.Possible.{possible-from, possible-to, sure-possible, no-sure, no-need, no-bar}
 
 -- a day counts because of a task of the list
