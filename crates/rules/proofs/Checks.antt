@@ -119,13 +119,13 @@ ranges-kept t u h l e =
     let y = spanFits durationLow durationHigh (t .duration) in
     let w = spanFits dayLow dayHigh (t .end) in
     let v = powersFit (t .height) in
-    let e₁ : and y (and w v) ≡ true = and-second x (and y (and w v)) e in
-    let e₂ : and w v ≡ true = and-second y (and w v) e₁ in
+    let after-origin : and y (and w v) ≡ true = and-second x (and y (and w v)) e in
+    let after-duration : and w v ≡ true = and-second y (and w v) after-origin in
     rw (
       span-kept dayLow dayHigh (t .origin) (u .origin) (h .origin) (l .origin) (and-first x (and y (and w v)) e),
-      span-kept durationLow durationHigh (t .duration) (u .duration) (h .duration) (l .duration) (and-first y (and w v) e₁),
-      span-kept dayLow dayHigh (t .end) (u .end) (h .end) (l .end) (and-first w v e₂),
-      powers-kept (t .height) (u .height) (h .height) (l .height) (and-second w v e₂),
+      span-kept durationLow durationHigh (t .duration) (u .duration) (h .duration) (l .duration) (and-first y (and w v) after-origin),
+      span-kept dayLow dayHigh (t .end) (u .end) (h .end) (l .end) (and-first w v after-duration),
+      powers-kept (t .height) (u .height) (h .height) (l .height) (and-second w v after-duration),
     )
 
 true-of : (b : Bool) → T b → b ≡ true

@@ -71,12 +71,12 @@ same-task-is a b h =
     let after-set : and o (and d (and e p)) ≡ true = and-second s (and o (and d (and e p))) h in
     let after-origin : and d (and e p) ≡ true = and-second o (and d (and e p)) after-set in
     let after-duration : and e p ≡ true = and-second d (and e p) after-origin in
-    let s₁ = eqb-true (a .set) (b .set) (and-first s (and o (and d (and e p))) h) in
-    let o₁ = same-range-is (daysOf (a .origin)) (daysOf (b .origin)) (and-first o (and d (and e p)) after-set) in
-    let d₁ = same-range-is (daysOf (a .duration)) (daysOf (b .duration)) (and-first d (and e p) after-origin) in
-    let e₁ = same-range-is (daysOf (a .end)) (daysOf (b .end)) (and-first e p after-duration) in
-    let p₁ = same-range-is (powersOf (a .height)) (powersOf (b .height)) (and-second e p after-duration) in
-    λ k. record { set = s₁ k; origin = spanOf (o₁ k); duration = spanOf (d₁ k); end = spanOf (e₁ k); height = powerSpanOf (p₁ k) }
+    let same-set = eqb-true (a .set) (b .set) (and-first s (and o (and d (and e p))) h) in
+    let same-origin = same-range-is (daysOf (a .origin)) (daysOf (b .origin)) (and-first o (and d (and e p)) after-set) in
+    let same-duration = same-range-is (daysOf (a .duration)) (daysOf (b .duration)) (and-first d (and e p) after-origin) in
+    let same-end = same-range-is (daysOf (a .end)) (daysOf (b .end)) (and-first e p after-duration) in
+    let same-height = same-range-is (powersOf (a .height)) (powersOf (b .height)) (and-second e p after-duration) in
+    λ k. record { set = same-set k; origin = spanOf (same-origin k); duration = spanOf (same-duration k); end = spanOf (same-end k); height = powerSpanOf (same-height k) }
 
 pub same-tasks-is : (ts us : List Task) → sameTasks ts us ≡ true → ts ≡ us
 unfolding sameTasks
@@ -130,12 +130,12 @@ room-same u t h l q g =
     let s = sub-le (u .set) (t .set) (h .set) in
     let k = some-place (u .set) (l .set) in
     let f = size-some 64 (u .set) (k .0) (omega arith) (k .1) in
-    let o₁ = range-same (daysOf (u .origin)) (daysOf (t .origin)) (h .origin) (l .origin) (omega arith) in
-    let d₁ = range-same (daysOf (u .duration)) (daysOf (t .duration)) (h .duration) (l .duration) (omega arith) in
-    let e₁ = range-same (daysOf (u .end)) (daysOf (t .end)) (h .end) (l .end) (omega arith) in
-    let h₁ = range-same (powersOf (u .height)) (powersOf (t .height)) (h .height) (l .height) (omega arith) in
-    let s₁ = size-same 64 (u .set) (t .set) (h .set) q (omega arith) in
-    λ k. record { set = s₁ k; origin = spanOf (o₁ k); duration = spanOf (d₁ k); end = spanOf (e₁ k); height = powerSpanOf (h₁ k) }
+    let same-origin = range-same (daysOf (u .origin)) (daysOf (t .origin)) (h .origin) (l .origin) (omega arith) in
+    let same-duration = range-same (daysOf (u .duration)) (daysOf (t .duration)) (h .duration) (l .duration) (omega arith) in
+    let same-end = range-same (daysOf (u .end)) (daysOf (t .end)) (h .end) (l .end) (omega arith) in
+    let same-height = range-same (powersOf (u .height)) (powersOf (t .height)) (h .height) (l .height) (omega arith) in
+    let same-set = size-same 64 (u .set) (t .set) (h .set) q (omega arith) in
+    λ k. record { set = same-set k; origin = spanOf (same-origin k); duration = spanOf (same-duration k); end = spanOf (same-end k); height = powerSpanOf (same-height k) }
 
 pub rooms-le : {us ts : List Task} → Subs us ts → Lives us → rooms us ≤ rooms ts
 unfolding rooms
