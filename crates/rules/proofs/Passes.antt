@@ -9,7 +9,7 @@ use Rattle.plan.specs.declared.Task.{Task}
 use Rattle.plan.specs.declared.Resource.{Resource}
 use Rattle.plan.specs.declared.Sense.{Sense}
 use Rattle.rules.specs.Allowed.{limitOn}
-use Rattle.rules.specs.Listing.{places, plans}
+use Rattle.rules.specs.Listing.{places}
 use Rattle.rules.specs.Balance.{Outcome, balance}
 use Rattle.rules.specs.Balance.Outcome.{NoPlan, Plan}
 use Rattle.rules.specs.Step.{resourceStep}
@@ -21,8 +21,7 @@ use Rattle.rules.specs.Calls.{check}
 use Rattle.rules.specs.Calls.Checked.{Accepted}
 use Rattle.rules.proofs.Limits.{ResourceAt}
 use Rattle.rules.proofs.Limits.ResourceAt.{first, next}
-use Rattle.rules.proofs.Subs.{subs-trans}
-use Rattle.rules.proofs.Keeps.{Keeps, Sound, play-sound}
+use Rattle.rules.proofs.Keeps.{Keeps, Nothing, Sound, keeps-then, nothing-then, play-sound}
 
 -- ---- the step of a place of the list
 step-of-place : (sense : Sense) (q : Resource) (r k : ℕ) (qs : List Resource) → ResourceAt q r k qs → (j : ℕ) × (r ≡ k + j) × ((ts : List Task) → stepOf sense k j qs ts ≡ resourceStep sense r (limitOn q) ts)
@@ -90,14 +89,13 @@ passes-play (suc k) sense qs ts =
 
 -- ---- settling
 abbrev pub SettledSound : Sense → List Resource → List Task → Settled → Type 0
-SettledSound sense qs ts Refused = plans sense qs ts ≡ []
+SettledSound sense qs ts Refused = Nothing sense qs ts
 SettledSound sense qs ts (After n us) = Keeps sense qs ts us
 SettledSound sense qs ts Unsettled = Unit {0}
 
 more-sound : (sense : Sense) (qs : List Resource) (us ts : List Task) (s : Settled) → Keeps sense qs ts us → SettledSound sense qs us s → SettledSound sense qs ts (onePassMore s)
-more-sound sense qs us ts Refused h g = sym (h .same) ∙ g
-more-sound sense qs us ts (After n vs) h g =
-    record { same = g .same ∙ h .same; accepted = g .accepted; inside = subs-trans (g .inside) (h .inside) }
+more-sound sense qs us ts Refused h g = nothing-then h g
+more-sound sense qs us ts (After n vs) h g = keeps-then h g
 more-sound sense qs us ts Unsettled h g = tt
 
 unless-same-sound : (sense : Sense) (qs : List Resource) (ts : List Task) (k : List Task → Settled) (o : Outcome) → Sound sense qs ts o → ((us : List Task) → check qs us ≡ Accepted → SettledSound sense qs us (k us)) → SettledSound sense qs ts (unlessSame k ts o)

@@ -23,41 +23,49 @@ use Rattle.rules.specs.Calls.{check}
 use Rattle.rules.specs.Calls.Checked.{Accepted}
 use Rattle.rules.proofs.Limits.{ResourceAt}
 use Rattle.rules.proofs.Subs.{Subs}
-use Rattle.rules.proofs.Keeps.{Keeps, Sound, balance-sound, step-sound, play-sound, move-sound}
+use Rattle.rules.proofs.Keeps.{Keeps, Nothing, Sound, balance-sound, step-sound, play-sound, move-sound}
 use Rattle.rules.proofs.Passes.{onePass, pass-play, manyPasses, passes-play, pass-sound, SettledSound, settle-sound}
 use Rattle.rules.proofs.FixedPass.{pass-fixed, some-choice, pass-one-choice}
 use Rattle.rules.proofs.Rooms.{keeps-less}
 use Rattle.rules.proofs.Once.{Placed, once}
 use Rattle.rules.proofs.Ends.{Ended, settle-ends}
 
--- us holds exactly the allowed plans of ts, passes the checks and lies inside ts
+-- us holds exactly the allowed choices of ts, passes the checks and lies inside ts
 abbrev pub Same : Sense → List Resource → List Task → List Task → Type 0
-Same sense qs ts us = (plans sense qs us ≡ plans sense qs ts) × (check qs us ≡ Accepted) × Subs us ts
+Same sense qs ts us =
+    (plans sense qs us ≡ plans sense qs ts) × ((cs : List Choice) → allowed sense qs cs ≡ true → insideAll us cs ≡ insideAll ts cs) × (check qs us ≡ Accepted) × Subs us ts
+
+-- no choice inside ts is allowed
+abbrev pub None : Sense → List Resource → List Task → Type 0
+None sense qs ts = (plans sense qs ts ≡ []) × ((cs : List Choice) → allowed sense qs cs ≡ true → insideAll ts cs ≡ false)
 
 kept : {sense : Sense} {qs : List Resource} {ts us : List Task} → Keeps sense qs ts us → Same sense qs ts us
-kept h = (h .same, h .accepted, h .inside)
+kept h = (h .same, h .choices, h .accepted, h .inside)
+
+lost : {sense : Sense} {qs : List Resource} {ts : List Task} → Nothing sense qs ts → None sense qs ts
+lost h = (h .none, h .choices)
 
 module _ (sense : Sense) (qs : List Resource) (ts : List Task) (ok : check qs ts ≡ Accepted) where
   -- ---- one step: the same choices are allowed inside what it leaves as inside what entered, and none where it finds no plan
   pub balance-keeps : (us : List Task) → balance ts ≡ Plan us → Same sense qs ts us
   balance-keeps us e = kept (subst (Sound sense qs ts) e (balance-sound sense qs ts ok))
 
-  pub balance-refuses : balance ts ≡ NoPlan → plans sense qs ts ≡ []
-  balance-refuses e = subst (Sound sense qs ts) e (balance-sound sense qs ts ok)
+  pub balance-refuses : balance ts ≡ NoPlan → None sense qs ts
+  balance-refuses e = lost (subst (Sound sense qs ts) e (balance-sound sense qs ts ok))
 
   -- of any resource q of the list, at its place r
   pub resource-step-keeps : (r : ℕ) (q : Resource) → ResourceAt q r 0 qs → (us : List Task) → resourceStep sense r (limitOn q) ts ≡ Plan us → Same sense qs ts us
   resource-step-keeps r q at us e = kept (subst (Sound sense qs ts) e (step-sound sense qs r q at ts ok))
 
-  pub resource-step-refuses : (r : ℕ) (q : Resource) → ResourceAt q r 0 qs → resourceStep sense r (limitOn q) ts ≡ NoPlan → plans sense qs ts ≡ []
-  resource-step-refuses r q at e = subst (Sound sense qs ts) e (step-sound sense qs r q at ts ok)
+  pub resource-step-refuses : (r : ℕ) (q : Resource) → ResourceAt q r 0 qs → resourceStep sense r (limitOn q) ts ≡ NoPlan → None sense qs ts
+  resource-step-refuses r q at e = lost (subst (Sound sense qs ts) e (step-sound sense qs r q at ts ok))
 
   -- ---- any sequence of such steps, of any length and order, each on what the one before left: the same
   pub sequence-keeps : (ms : List Move) (us : List Task) → play sense qs ms ts ≡ Plan us → Same sense qs ts us
   sequence-keeps ms us e = kept (subst (Sound sense qs ts) e (play-sound sense qs ms ts ok))
 
-  pub sequence-refuses : (ms : List Move) → play sense qs ms ts ≡ NoPlan → plans sense qs ts ≡ []
-  sequence-refuses ms e = subst (Sound sense qs ts) e (play-sound sense qs ms ts ok)
+  pub sequence-refuses : (ms : List Move) → play sense qs ms ts ≡ NoPlan → None sense qs ts
+  sequence-refuses ms e = lost (subst (Sound sense qs ts) e (play-sound sense qs ms ts ok))
 
   -- a pass is such a sequence
   pub pass-is-sequence : pass sense qs ts ≡ play sense qs (onePass (length qs)) ts
@@ -70,16 +78,16 @@ module _ (sense : Sense) (qs : List Resource) (ts : List Task) (ok : check qs ts
   pub pass-keeps : (us : List Task) → pass sense qs ts ≡ Plan us → Same sense qs ts us
   pass-keeps us e = kept (subst (Sound sense qs ts) e (pass-sound sense qs ts ok))
 
-  pub pass-refuses : pass sense qs ts ≡ NoPlan → plans sense qs ts ≡ []
-  pass-refuses e = subst (Sound sense qs ts) e (pass-sound sense qs ts ok)
+  pub pass-refuses : pass sense qs ts ≡ NoPlan → None sense qs ts
+  pass-refuses e = lost (subst (Sound sense qs ts) e (pass-sound sense qs ts ok))
 
   pub settle-keeps : (k : ℕ) (us : List Task) → settle sense qs ts ≡ After k us → Same sense qs ts us
   unfolding settle
   settle-keeps k us e = kept (subst (SettledSound sense qs ts) e (settle-sound (suc (rooms ts)) sense qs ts ok))
 
-  pub settle-refuses : settle sense qs ts ≡ Refused → plans sense qs ts ≡ []
+  pub settle-refuses : settle sense qs ts ≡ Refused → None sense qs ts
   unfolding settle
-  settle-refuses e = subst (SettledSound sense qs ts) e (settle-sound (suc (rooms ts)) sense qs ts ok)
+  settle-refuses e = lost (subst (SettledSound sense qs ts) e (settle-sound (suc (rooms ts)) sense qs ts ok))
 
   -- ---- the number of allowed plans is the same before and after, and 0 where there is no plan
   pub sequence-counts : (ms : List Move) (us : List Task) → play sense qs ms ts ≡ Plan us → count sense qs us ≡ count sense qs ts
@@ -88,7 +96,7 @@ module _ (sense : Sense) (qs : List Resource) (ts : List Task) (ok : check qs ts
 
   pub sequence-counts-none : (ms : List Move) → play sense qs ms ts ≡ NoPlan → count sense qs ts ≡ 0
   unfolding count
-  sequence-counts-none ms e = ap length (sequence-refuses ms e)
+  sequence-counts-none ms e = ap length (sequence-refuses ms e .0)
 
   pub settle-counts : (k : ℕ) (us : List Task) → settle sense qs ts ≡ After k us → count sense qs us ≡ count sense qs ts
   unfolding count
@@ -96,7 +104,7 @@ module _ (sense : Sense) (qs : List Resource) (ts : List Task) (ok : check qs ts
 
   pub settle-counts-none : settle sense qs ts ≡ Refused → count sense qs ts ≡ 0
   unfolding count
-  settle-counts-none e = ap length (settle-refuses e)
+  settle-counts-none e = ap length (settle-refuses e .0)
 
   -- ---- one fixed choice: where every range has one value and every set one resource, there is a choice inside, and for it a full pass
   -- finds no plan exactly where it breaks a rule, and else changes nothing
