@@ -3,6 +3,7 @@ pub mod Days
 pub mod Walk
 pub mod Cases
 pub mod Live
+pub mod Possible
 pub mod Quiet
 pub mod Negation
 pub mod Inside
@@ -15,3 +16,16 @@ pub mod AtMostSound
 pub mod Subs
 pub mod Shrinks
 pub mod Checks
+pub mod Listings
+pub mod Keeps
+pub mod Passes
+pub mod FixedSteps
+pub mod FixedPass
+pub mod Rooms
+pub mod Ends
+pub mod Unlisted
+pub mod Elsewhere
+pub mod Still
+pub mod Sizes
+pub mod Once
+pub mod Theorems

@@ -4,5 +4,7 @@ pub mod Listing
 pub mod Balance
 pub mod Step
 pub mod Settle
+pub mod Moves
+pub mod Fixed
 pub mod Calls
 pub mod Cases
