@@ -1,0 +1,2 @@
+-- Rows of numbers as tasks and resources.
+pub mod View

@@ -1,0 +1,151 @@
+// The core's lists: a task stands in a row of nine numbers, a resource in a row of two, a list is a lent slice of rows.
+// Slices of rows of numbers are lent and changed in place; the view in specs/ says which tasks and resources they hold.
+ghost use mathlib.Core.Path.{_≡_};
+ghost use Prim.Native.Nat.{ℕ, _<_};
+ghost use mir.Syntax.{w64};
+ghost use mir.Val.{ofZ};
+ghost use lib.ListN.{length, getD, set};
+ghost use Rattle.rows.specs.View.{taskOf, tasksOf, noTask, idOf, resourceOf, resourcesOf, noResource};
+use plan::Day;
+use plan::Power;
+use plan::PowerSpan;
+use plan::Resource;
+use plan::Span;
+use plan::Task;
+
+// A cell as a set, and back: the same 64 bits.
+fn set_of(x: i64) -> u64
+    ensures { λ r. ⌜ r ≡ ofZ w64 x ⌝ }
+{
+    if x < 0 {
+        0xffff_ffff_ffff_ffff - (-1 - x) as u64
+    } else {
+        x as u64
+    }
+}
+
+fn set_in(x: u64) -> i64
+    ensures { λ r. ⌜ ofZ w64 r ≡ x ⌝ }
+{
+    if x < 0x8000_0000_0000_0000 {
+        x as i64
+    } else {
+        -1 - ((0xffff_ffff_ffff_ffff - x) as i64)
+    }
+}
+
+// A row: set, then low and high of origin, duration, end and height.
+fn task_of(r: [i64; 9]) -> Task
+    ensures { λ t. ⌜ t ≡ taskOf r ⌝ }
+{
+    Task {
+        set: set_of(r[0]),
+        origin: Span {
+            low: Day(r[1]),
+            high: Day(r[2]),
+        },
+        duration: Span {
+            low: Day(r[3]),
+            high: Day(r[4]),
+        },
+        end: Span {
+            low: Day(r[5]),
+            high: Day(r[6]),
+        },
+        height: PowerSpan {
+            low: Power(r[7]),
+            high: Power(r[8]),
+        },
+    }
+}
+
+fn row_of(t: Task) -> [i64; 9]
+    ensures { λ r. ⌜ taskOf r ≡ t ⌝ }
+{
+    [
+        set_in(t.set),
+        t.origin.low.0,
+        t.origin.high.0,
+        t.duration.low.0,
+        t.duration.high.0,
+        t.end.low.0,
+        t.end.high.0,
+        t.height.low.0,
+        t.height.high.0,
+    ]
+}
+
+pub fn task_at(s: &[[i64; 9]], i: usize) -> Task
+    requires { ⌜ i < length (now s) ⌝ }
+    ensures { λ r. ⌜ r ≡ getD (tasksOf (now (s .entry))) i noTask ⌝ }
+{
+    let r = s[i];
+    task_of(r)
+}
+
+pub fn put_task(s: &mut [[i64; 9]], i: usize, t: Task)
+    requires { ⌜ i < length (now s) ⌝ }
+    ensures { λ _. ⌜ tasksOf (now (s .exit)) ≡ set (tasksOf (now (s .entry))) i t ⌝ }
+{
+    let r = row_of(t);
+    s[i] = r;
+}
+
+// A cell as an identifier, 0 where it is none, and back.
+fn id_of(x: i64) -> i32
+    ensures { λ r. ⌜ r ≡ idOf x ⌝ }
+{
+    if x < -0x8000_0000 {
+        return 0;
+    }
+    if 0x7fff_ffff < x {
+        return 0;
+    }
+    x as i32
+}
+
+fn id_in(x: i32) -> i64
+    ensures { λ r. ⌜ idOf r ≡ x ⌝ }
+{
+    x as i64
+}
+
+// A row: identifier and limit.
+fn resource_of(r: [i64; 2]) -> Resource
+    ensures { λ q. ⌜ q ≡ resourceOf r ⌝ }
+{
+    Resource {
+        id: id_of(r[0]),
+        limit: Power(r[1]),
+    }
+}
+
+fn resource_row(q: Resource) -> [i64; 2]
+    ensures { λ r. ⌜ resourceOf r ≡ q ⌝ }
+{
+    [id_in(q.id), q.limit.0]
+}
+
+pub fn resource_at(s: &[[i64; 2]], i: usize) -> Resource
+    requires { ⌜ i < length (now s) ⌝ }
+    ensures { λ r. ⌜ r ≡ getD (resourcesOf (now (s .entry))) i noResource ⌝ }
+{
+    let r = s[i];
+    resource_of(r)
+}
+
+pub fn put_resource(s: &mut [[i64; 2]], i: usize, q: Resource)
+    requires { ⌜ i < length (now s) ⌝ }
+    ensures { λ _. ⌜ resourcesOf (now (s .exit)) ≡ set (resourcesOf (now (s .entry))) i q ⌝ }
+{
+    let r = resource_row(q);
+    s[i] = r;
+}
+
+// The limit alone, where it lies.
+pub fn limit_at(s: &[[i64; 2]], i: usize) -> Power
+    requires { ⌜ i < length (now s) ⌝ }
+    ensures { λ r. ⌜ r ≡ (getD (resourcesOf (now (s .entry))) i noResource) .limit ⌝ }
+{
+    Power(s[i][1])
+}
