@@ -1,2 +1,6 @@
--- Laws of keys.
+-- Laws of keys, of tasks within their ends, of a task's events, of the sweep, and of what the stretches tell.
 pub mod Keys
+pub mod Fit
+pub mod Laid
+pub mod Events
+pub mod Loops

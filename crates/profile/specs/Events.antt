@@ -11,12 +11,21 @@ use Rattle.plan.specs.Days.{day, dayLow, dayHigh}
 use Rattle.plan.specs.Powers.{power, powerLow, powerHigh}
 use Rattle.plan.specs.Sets.{has, only}
 use Rattle.profile.specs.declared.Change.{Change}
+use Rattle.profile.specs.declared.Count.{Count}
 use Rattle.profile.specs.declared.Common.{Common}
-use Rattle.profile.specs.Keys.{keyOf}
+use Rattle.profile.specs.Keys.{keyOf, EventFits}
+
+abbrev pub count : ℤ → Count
+count n = record { 0 = n }
 
 -- a change from one day on and its opposite from another
 abbrev pub change : ℤ → ℤ → ℤ → ℤ → Change
-change a b p u = record { from = day a; to = day b; power = power p; sure = record { 0 = u } }
+change a b p u = record { from = day a; to = day b; power = power p; sure = count u }
+
+-- the changes that two keys can hold
+pub record ChangeFits (e : Change) : Type 0 where
+  pub first : EventFits (e .from .0) (e .power .0) (e .sure .0)
+  pub last : EventFits (e .to .0) (negℤ (e .power .0)) (negℤ (e .sure .0))
 
 unfoldable pub changeKeys : Change → List ℕ
 changeKeys e = keyOf (e .from .0) (e .power .0) (e .sure .0) ∷ keyOf (e .to .0) (negℤ (e .power .0)) (negℤ (e .sure .0)) ∷ []
@@ -48,9 +57,13 @@ taskKeys r t =
     (if (surely r t) (if (fixed t) (hopeOver t (pos 1)) (hopeOver t (pos 0) ++ sureOver t (pos 0))) (hopeOver t (pos 0)))
     (if (surely r t) (sureOver t (t .height .high .0)) [])
 
+-- those of any task
+unfoldable pub eventsOf : ℕ → Task → List ℕ
+eventsOf r t = if (has (t .set) r) (taskKeys r t) []
+
 unfoldable pub keysOf : ℕ → List Task → List ℕ
 keysOf r [] = []
-keysOf r (t ∷ ts) = if (has (t .set) r) (taskKeys r t) [] ++ keysOf r ts
+keysOf r (t ∷ ts) = eventsOf r t ++ keysOf r ts
 
 -- a task is barred only where the slack is below this
 unfoldable pub barOf : Task → ℤ
@@ -69,10 +82,13 @@ withTask c t =
       lift = power (larger (c .lift .0) (liftOf t));
     }
 
+unfoldable pub joined : ℕ → Common → Task → Common
+joined r c t = if (has (t .set) r) (withTask c t) c
+
 -- what the tasks that have r in their set have in common, joined to c
 unfoldable pub common : ℕ → Common → List Task → Common
 common r c [] = c
-common r c (t ∷ ts) = common r (if (has (t .set) r) (withTask c t) c) ts
+common r c (t ∷ ts) = common r (joined r c t) ts
 
 -- of no task
 unfoldable pub nobody : Common

@@ -12,9 +12,14 @@ use Rattle.plan.specs.Days.{dayLow, dayHigh}
 use Rattle.plan.specs.Powers.{powerLow, powerHigh}
 use Rattle.rules.specs.Step.{shortfall, listedDays}
 use Rattle.rules.specs.Calls.{rangesFit}
+use Rattle.rows.specs.View.{noTask}
 use Rattle.stretches.specs.declared.Stretch.{Stretch}
 use Rattle.stretches.specs.View.{noStretch}
 use Rattle.stretches.specs.Tells.{big, Tells}
+
+-- each task's ranges lie within their ends
+abbrev pub Fitting : List Task → Type 0
+Fitting ts = (k : ℕ) → k < length ts → rangesFit (getD ts k noTask) ≡ true
 
 -- days and powers small enough for the sums that are made of them
 pub record Bounded (s : Stretch) : Type 0 where
@@ -32,7 +37,7 @@ pub record FirstShort (ss : List Stretch) (k : ℕ) : Type 0 where
   pub there : k < length ss → getD ss k noStretch .tight .0 <ℤ pos 0
 
 -- THE PROMISE, with the task at each place told what it needs, and a shortfall told as the page has it
-pub record Profile (r : ℕ) (limit : ℤ → ℤ) (none : Task) (ts : List Task) (ss : List Stretch) (short : Bool) : Type 0 where
+pub record Profile (r : ℕ) (limit : ℤ → ℤ) (ts : List Task) (ss : List Stretch) (short : Bool) : Type 0 where
   pub bounded : (k : ℕ) → k < length ss → Bounded (getD ss k noStretch)
   pub shortfall : short ≡ any (shortfall r limit ts) (listedDays ts)
-  pub tells : (k : ℕ) → k < length ts → Tells r limit ts (getD ts k none) ss
+  pub tells : (k : ℕ) → k < length ts → Tells r limit ts (getD ts k noTask) ss

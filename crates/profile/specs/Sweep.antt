@@ -11,10 +11,11 @@ use Rattle.stretches.specs.declared.Stretch.{Stretch}
 use Rattle.stretches.specs.Tells.{big}
 use Rattle.profile.specs.declared.Common.{Common}
 use Rattle.profile.specs.declared.Level.{Level}
+use Rattle.profile.specs.Events.{count}
 use Rattle.profile.specs.Keys.{dayOf, powerOf, sureOf}
 
 abbrev pub level : ℤ → ℤ → Level
-level x u = record { slack = power x; sure = record { 0 = u } }
+level x u = record { slack = power x; sure = count u }
 
 -- a key more
 unfoldable pub changed : Level → ℕ → Level
