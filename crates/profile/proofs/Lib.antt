@@ -4,3 +4,5 @@ pub mod Fit
 pub mod Laid
 pub mod Events
 pub mod Loops
+pub mod Each
+pub mod Adds
