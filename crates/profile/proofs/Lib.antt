@@ -6,3 +6,4 @@ pub mod Events
 pub mod Loops
 pub mod Each
 pub mod Adds
+pub mod Spread
