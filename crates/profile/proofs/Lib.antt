@@ -7,3 +7,4 @@ pub mod Loops
 pub mod Each
 pub mod Adds
 pub mod Spread
+pub mod Covers
