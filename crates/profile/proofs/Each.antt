@@ -45,6 +45,12 @@ module _ {A : Type 0} where
   each-map P Q f [] e = tt
   each-map P Q f (x ∷ xs) e = (f x (e .0), each-map P Q f xs (e .1))
 
+  -- two facts of each make a third
+  pub each-two : (P Q R : A → Type 0) → ((x : A) → P x → Q x → R x) → (xs : List A) → Each P xs → Each Q xs → Each R xs
+  unfolding Each
+  each-two P Q R f [] p q = tt
+  each-two P Q R f (x ∷ xs) p q = (f x (p .0) (q .0), each-two P Q R f xs (p .1) (q .1))
+
 pub each-in : (P : Task → Type 0) {t : Task} {ts : List Task} → In t ts → Each P ts → P t
 unfolding Each
 each-in P head e = e .0

@@ -8,3 +8,4 @@ pub mod Each
 pub mod Adds
 pub mod Spread
 pub mod Covers
+pub mod Promise
