@@ -8,7 +8,7 @@ use lib.Dec.{ltb}
 use lib.IntN.{ℤ, pos, negsuc, negℤ, _+ℤ_, _-ℤ_}
 use lib.ListN.{length, getD}
 use lib.Signed.{_≤ℤ_, _<ℤ_, leZ, ltZ}
-use borrow.Author.Tests.{lt-ltb, le-ltb}
+use borrow.Author.Tests.{ltb-true, ltb-false}
 use Rattle.integers.specs.Whole.{larger}
 use Rattle.integers.specs.Tests.{if, and, or, all, any}
 use Rattle.integers.specs.Sums.{sumOf}
@@ -16,6 +16,7 @@ use Rattle.integers.proofs.Z.{z, +z, -z, ~z, maxz, leZ-in, leZ-out, ltZ-in, ltZ
 use Rattle.integers.proofs.Tests.{clash, by-cases, false-in, same-test, and-first, and-second, and-in, or-first, or-second, or-left, not-out, any-out, not-any}
 use Rattle.integers.proofs.Sums.{Near}
 use Rattle.plan.specs.declared.Task.{Task}
+use Rattle.plan.specs.Powers.{powerLow, powerHigh}
 use Rattle.plan.specs.Sets.{has, only}
 use Rattle.plan.proofs.Sets.{only-is, has-alone}
 use Rattle.rules.specs.Step.{possible, running, sure, hope, total, others, counts, shortfall, needed, barred, listedDays}
@@ -35,7 +36,7 @@ use Rattle.profile.specs.Promise.{Bounded, FirstShort}
 use Rattle.profile.proofs.Fit.{Fit}
 use Rattle.profile.proofs.Each.{Each, each-at, each-by, each-in, each-map, each-two, in-at}
 use Rattle.profile.proofs.Adds.{upTo, sureOne, keys-power, keys-sure, counts-is}
-use Rattle.profile.proofs.Spread.{levelOn, Told, Calm, Spread, on-first, on-last, on-in, chain-ordered, swept-spread}
+use Rattle.profile.proofs.Spread.{levelOn, Told, Calm, Spread, on-first, on-last, on-in, chain-ordered, chain-rises, swept-spread}
 use Rattle.profile.proofs.Covers.{Covers, Over, common-over, common-covers, Dated, common-dated, keys-each, each-keys}
 
 -- ---- a task on a day
@@ -113,6 +114,13 @@ module _ (r : ℕ) (i : ℤ) where
       let a = hope-near r i t (f .0) in
       let b = total-near ts (f .1) in
       record { over = omega (z, +z (hope r i t) (sumOf (hope r i) ts)); under = omega (z, +z (hope r i t) (sumOf (hope r i) ts)) }
+
+any-at : {A : Type 0} (p : A → Bool) (d : A) (xs : List A) → any p xs ≡ true → (q : ℕ) × (q < length xs) × (p (getD xs q d) ≡ true)
+unfolding any
+any-at p d [] e = clash false e refl
+any-at p d (y ∷ ys) e =
+    by-cases (p y) (λ g. (0, suc-le-suc zero-le, g))
+    (λ g. let w = any-at p d ys (sym (or-left (p y) (any p ys) g) ∙ e) in (suc (w .0), suc-le-suc (w .1), w .2))
 
 -- ---- keys in another order
 each-sorted : (p : ℕ → Bool) (xs ys : List ℕ) → ((g : ℕ → ℤ) → sumOf g ys ≡ sumOf g xs) → Each (λ k. p k ≡ true) xs → Each (λ k. p k ≡ true) ys
@@ -318,4 +326,120 @@ module _ (r : ℕ) (x : ℤ) (ts : List Task) (f : Each Fit ts) (ls : List ℕ) 
         exact = λ q h. exact (getD told q noStretch) (each-at (Told (levelOn start ls) ls (here .low .0) (here .high .0)) noStretch told (spread .told) q h);
         uncut = λ q h. uncut k (getD told q noStretch) (each-at (Told (levelOn start ls) ls (here .low .0) (here .high .0)) noStretch told (spread .told) q h);
         quiet = λ i off. quiet k i off;
+      }
+
+  -- ---- shortfall
+  -- a day in a stretch, and that stretch
+  on-told : (i : ℤ) → any (onDay i) told ≡ true → (q : ℕ) × (q < length told) × (onDay i (getD told q noStretch) ≡ true)
+  on-told i e = any-at (onDay i) noStretch told e
+
+  told-at : (q : ℕ) → q < length told → Told (levelOn start ls) ls (here .low .0) (here .high .0) (getD told q noStretch)
+  told-at q h = each-at (Told (levelOn start ls) ls (here .low .0) (here .high .0)) noStretch told (spread .told) q h
+
+  tight-short : (i : ℤ) → tightOn r limit ts i <ℤ pos 0 → shortfall r limit ts i ≡ true
+  unfolding tightOn slackOn shortfall
+  tight-short i h =
+      by-cases (counts r ts i)
+      (λ c. rw (c, ltZ-in (total r ts i) x (let g = rw c at h in omega (z, -z (total r ts i) x))))
+      (λ c. absurd (let g : big <ℤ pos 0 = rw c at h in omega z))
+
+  short-counts : (i : ℤ) → shortfall r limit ts i ≡ true → counts r ts i ≡ true
+  unfolding shortfall
+  short-counts i e = and-first (counts r ts i) (ltZ (total r ts i) x) e
+
+  short-tight : (i : ℤ) → shortfall r limit ts i ≡ true → tightOn r limit ts i <ℤ pos 0
+  unfolding tightOn slackOn shortfall
+  short-tight i e =
+      let l = and-second (counts r ts i) (ltZ (total r ts i) x) e in
+      rw (and-first (counts r ts i) (ltZ (total r ts i) x) e) (omega (z, -z (total r ts i) x))
+
+  -- a shortfall on any day is one on a listed day
+  short-listed : (i : ℤ) → shortfall r limit ts i ≡ true → any (shortfall r limit ts) (listedDays ts) ≡ true
+  short-listed i e =
+      let c = counts-out r i ts (short-counts i e) in
+      let p = sure-possible r i (c .0) (fit (c .1)) (c .2) in
+      by-cases (any (shortfall r limit ts) (listedDays ts)) (λ a. a)
+      (λ a.
+        clash (shortfall r limit ts i) e
+        (not-out (shortfall r limit ts i)
+        (listed r (λ d. not (shortfall r limit ts d)) (c .0) ts (c .1) (not-any (shortfall r limit ts) (listedDays ts) a) i (possible-first r i (c .0) p) (possible-last r i (c .0) p))))
+
+  -- and it lies in a stretch
+  short-told : (i : ℤ) → shortfall r limit ts i ≡ true → any (onDay i) told ≡ true
+  unfolding nobody
+  short-told i e =
+      let c = counts-out r i ts (short-counts i e) in
+      let p = sure-possible r i (c .0) (fit (c .1)) (c .2) in
+      let t = short-tight i e in
+      let o : pos 0 ≤ℤ here .lift .0 = common-over r nobody ts .lift in
+      by-cases (any (onDay i) told) (λ a. a) (λ a. absurd (let l = calm (c .1) i a p .1 in omega z))
+
+  abbrev pub first-day : ℕ → ℤ
+  first-day k = getD told k noStretch .from .0
+
+  on-first-day : (k : ℕ) → k < length told → onDay (first-day k) (getD told k noStretch) ≡ true
+  on-first-day k h = let t = told-at k h .filled in on-in (first-day k) (getD told k noStretch) (omega z) t
+
+  -- the first day of the first short stretch is a day of shortfall
+  pub short-there : (k : ℕ) → FirstShort told k → k < length told → shortfall r limit ts (first-day k) ≡ true
+  short-there k w h = tight-short (first-day k) (rw (told-at k h .tight (first-day k) (on-first-day k h) ∙ tight-is (first-day k)) at (w .there h))
+
+  short-nowhere : (k : ℕ) → FirstShort told k → length told ≤ k → (i : ℤ) × (shortfall r limit ts i ≡ true) → ⊥
+  short-nowhere k w h e =
+      let i = e .0 in
+      let o = on-told i (short-told i (e .1)) in
+      let t = told-at (o .0) (o .1) .tight i (o .2) ∙ tight-is i in
+      let l = short-tight i (e .1) in
+      let g = w .before (o .0) (omega arith) in
+      omega z
+
+  pub short-is : (k : ℕ) → FirstShort told k → ltb k (length told) ≡ any (shortfall r limit ts) (listedDays ts)
+  short-is k w =
+      by-cases (ltb k (length told))
+      (λ e. e ∙ sym (short-listed (first-day k) (short-there k w (ltb-true k (length told) e))))
+      (λ e. e ∙ sym (false-in (any (shortfall r limit ts) (listedDays ts)) (λ a. short-nowhere k w (ltb-false k (length told) e) (any-out (shortfall r limit ts) (listedDays ts) a))))
+
+  -- no earlier day is one
+  pub short-first : (k : ℕ) → FirstShort told k → k < length told → (i : ℤ) → i <ℤ first-day k → shortfall r limit ts i ≡ false
+  short-first k w h i l =
+      false-in (shortfall r limit ts i)
+      (λ e.
+        let o = on-told i (short-told i e) in
+        let t = told-at (o .0) (o .1) .tight i (o .2) ∙ tight-is i in
+        let m = short-tight i e in
+        let a = on-first i (getD told (o .0) noStretch) (o .2) in
+        by-cases (ltb (o .0) k)
+        (λ g. let b = w .before (o .0) (ltb-true (o .0) k g) in omega z)
+        (λ g. let b = chain-rises (here .low .0) told (spread .chain) k (o .0) (ltb-false (o .0) k g) (o .1) in omega z))
+
+  -- ---- bounds
+  tight-bounds : (i : ℤ) → slackOn r limit ts i ≤ℤ pos 300000000 → (slackOn r limit ts i ≤ℤ tightOn r limit ts i) × (tightOn r limit ts i ≤ℤ big)
+  unfolding tightOn
+  tight-bounds i h = by-cases (counts r ts i) (λ c. rw c (omega z, omega z)) (λ c. rw c (omega z, omega z))
+
+  slack-bounds : length ts ≤ 256 → powerLow ≤ℤ x → x ≤ℤ powerHigh → (i : ℤ) → (negsuc 299999999 ≤ℤ slackOn r limit ts i) × (slackOn r limit ts i ≤ℤ pos 300000000)
+  unfolding slackOn
+  slack-bounds h a b i =
+      let n = total-near r i ts f in
+      (omega (z, -z (total r ts i) x), omega (z, -z (total r ts i) x))
+
+  pub bounded : length ts ≤ 256 → powerLow ≤ℤ x → x ≤ℤ powerHigh → (q : ℕ) → q < length told → Bounded (getD told q noStretch)
+  unfolding nobody
+  bounded h a b q l =
+      let t = told-at q l in
+      let i = first-day q in
+      let d = common-dated r nobody ts f (record { first = omega z; last = omega z }) in
+      let first = t .first in
+      let last = t .last in
+      let m = slack-bounds h a b i in
+      let n = tight-bounds i (m .1) in
+      let s = t .slack i (on-first-day q l) ∙ slack-is i in
+      let g = t .tight i (on-first-day q l) ∙ tight-is i in
+      record {
+        first = omega (z, d .first);
+        last = omega (z, d .last);
+        under = rw s (m .0);
+        over = rw s (m .1);
+        above = rw (s, g) (n .0);
+        most = rw g (n .1);
       }

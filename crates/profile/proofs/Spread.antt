@@ -2,7 +2,9 @@
 use mathlib.Core.Path.{_≡_, refl, sym, ap, _∙_, subst}
 use mathlib.Core.Bool.{Bool, true, false}
 use mathlib.Core.List.{List, [], _∷_, _++_, append-nil}
-use Prim.Native.Nat.{ℕ, _≤_, _<_}
+use Prim.Native.Nat.{ℕ, zero, suc, _≤_, _<_}
+use native.Mathlib.Nat.{not-suc-le-zero, le-of-suc-le-suc}
+use lib.ListN.{length, getD}
 use lib.IntN.{ℤ, pos, _+ℤ_, +ℤ-assoc}
 use lib.Signed.{_≤ℤ_, _<ℤ_, leZ, ltZ}
 use Rattle.integers.specs.Tests.{if, and, or, any}
@@ -12,7 +14,7 @@ use Rattle.integers.proofs.Tests.{clash, by-cases, false-in, and-first, and-sec
 use Rattle.sorting.specs.Order.{RisesFrom}
 use Rattle.plan.specs.Powers.{power}
 use Rattle.stretches.specs.declared.Stretch.{Stretch}
-use Rattle.stretches.specs.View.{onDay}
+use Rattle.stretches.specs.View.{noStretch, onDay}
 use Rattle.stretches.specs.Tells.{Ordered}
 use Rattle.profile.specs.declared.Common.{Common}
 use Rattle.profile.specs.declared.Level.{Level}
@@ -55,6 +57,27 @@ unfolding Chain Ordered
 chain-ordered a [] c = tt
 chain-ordered a (u ∷ []) c = c .1
 chain-ordered a (u ∷ w ∷ us) c = (c .1, c .2 .0, chain-ordered (u .to .0) (w ∷ us) (c .2))
+
+chain-at : (a : ℤ) (us : List Stretch) → Chain a us → (q : ℕ) → q < length us → a ≤ℤ getD us q noStretch .from .0
+unfolding Chain
+chain-at a [] c q h = absurd (not-suc-le-zero h)
+chain-at a (u ∷ us) c zero h = c .0
+chain-at a (u ∷ us) c (suc q) h =
+    let x = c .0 in
+    let y = c .1 in
+    let w = chain-at (u .to .0) us (c .2) q (le-of-suc-le-suc h) in
+    omega z
+
+pub chain-rises : (a : ℤ) (us : List Stretch) → Chain a us → (p q : ℕ) → p ≤ q → q < length us → getD us p noStretch .from .0 ≤ℤ getD us q noStretch .from .0
+unfolding Chain
+chain-rises a [] c p q l h = absurd (not-suc-le-zero h)
+chain-rises a (u ∷ us) c zero zero l h = omega z
+chain-rises a (u ∷ us) c zero (suc q) l h =
+    let y = c .1 in
+    let w = chain-at (u .to .0) us (c .2) q (le-of-suc-le-suc h) in
+    omega z
+chain-rises a (u ∷ us) c (suc p) zero l h = absurd (not-suc-le-zero l)
+chain-rises a (u ∷ us) c (suc p) (suc q) l h = chain-rises (u .to .0) us (c .2) p q (le-of-suc-le-suc l) (le-of-suc-le-suc h)
 
 -- ---- the stretch says what the levels are on its days, lies between a and b, and no key's day lies inside
 pub record Told (lv : ℤ → Level) (ks : List ℕ) (a b : ℤ) (u : Stretch) : Type 0 where
