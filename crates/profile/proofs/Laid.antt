@@ -4,8 +4,8 @@ use mathlib.Core.List.{List, [], _∷_, _++_, append-assoc, append-nil}
 use Prim.Native.Nat.{ℕ, suc, _+_, _≤_, _<_}
 use native.Mathlib.Numerals.{add-one}
 use native.Mathlib.Omega.{arith}
-use lib.ListN.{length, take, set, length-set, length-append}
-use lib.Seq.{take-suc-set, length-take-le}
+use lib.ListN.{length, take, drop, set, length-set, length-append}
+use lib.Seq.{take-suc-set, take-at, length-take-le}
 use Rattle.profile.specs.Laid.{Laid}
 
 module _ {A : Type 0} where
@@ -36,3 +36,7 @@ module _ {A : Type 0} where
   -- in a loop: what is laid, joined to what is left
   pub laid-more : (k l : List A) (n m : ℕ) (xs ys : List A) → Laid k l n m xs → take m l ++ ys ≡ take n k ++ (xs ++ ys)
   laid-more k l n m xs ys p = ap (λ (v : List A). v ++ ys) (p .front) ∙ append-assoc (take n k) xs ys
+
+  -- the front of a list that was lent and came back
+  pub front : (k l : List A) (n : ℕ) → n ≤ length k → length l ≡ length (take n k) → take n (l ++ drop n k) ≡ l
+  front k l n h e = take-at l (drop n k) n (e ∙ length-take-le n k h)

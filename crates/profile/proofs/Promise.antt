@@ -6,7 +6,8 @@ use Prim.Native.Nat.{ℕ, zero, suc, _+_, _*_, _≤_, _<_, suc-le-suc, zero-le}
 use native.Mathlib.Omega.{arith}
 use lib.Dec.{ltb}
 use lib.IntN.{ℤ, pos, negsuc, negℤ, _+ℤ_, _-ℤ_}
-use lib.ListN.{length, getD}
+use lib.ListN.{length, take, getD}
+use lib.Seq.{length-take-le, getD-take}
 use lib.Signed.{_≤ℤ_, _<ℤ_, leZ, ltZ}
 use borrow.Author.Tests.{ltb-true, ltb-false}
 use Rattle.integers.specs.Whole.{larger}
@@ -22,6 +23,7 @@ use Rattle.plan.proofs.Sets.{only-is, has-alone}
 use Rattle.rules.specs.Step.{possible, running, sure, hope, total, others, counts, shortfall, needed, barred, listedDays}
 use Rattle.rules.proofs.Days.{In, listed}
 use Rattle.rules.proofs.Days.In.{head, tail}
+use Rattle.rows.specs.View.{noTask}
 use Rattle.sorting.specs.Order.{Sorted}
 use Rattle.sorting.proofs.Every.{every}
 use Rattle.stretches.specs.declared.Stretch.{Stretch}
@@ -31,9 +33,9 @@ use Rattle.profile.specs.declared.Common.{Common}
 use Rattle.profile.specs.declared.Level.{Level}
 use Rattle.profile.specs.Keys.{dayOf, powerOf, sureOf}
 use Rattle.profile.specs.Events.{hopeful, surely, keysOf, barOf, liftOf, common, nobody}
-use Rattle.profile.specs.Sweep.{level, tightIn, swept}
-use Rattle.profile.specs.Promise.{Bounded, FirstShort}
-use Rattle.profile.proofs.Fit.{Fit}
+use Rattle.profile.specs.Sweep.{level, tightIn, swept, Sweeps}
+use Rattle.profile.specs.Promise.{Fitting, Bounded, FirstShort, Profile}
+use Rattle.profile.proofs.Fit.{Fit, fit-is}
 use Rattle.profile.proofs.Each.{Each, each-at, each-by, each-in, each-map, each-two, in-at}
 use Rattle.profile.proofs.Adds.{upTo, sureOne, keys-power, keys-sure, counts-is}
 use Rattle.profile.proofs.Spread.{levelOn, Told, Calm, Spread, on-first, on-last, on-in, chain-ordered, chain-rises, swept-spread}
@@ -443,3 +445,38 @@ module _ (r : ℕ) (x : ℤ) (ts : List Task) (f : Each Fit ts) (ls : List ℕ) 
         above = rw (s, g) (n .0);
         most = rw g (n .1);
       }
+
+  profile-of : length ts ≤ 256 → powerLow ≤ℤ x → x ≤ℤ powerHigh → (k : ℕ) → FirstShort told k → Profile r limit ts told (ltb k (length told))
+  profile-of h a b k w = record { bounded = bounded h a b; shortfall = short-is k w; tells = λ q l. tells (in-at noTask ts q l) }
+
+-- ---- as the code has them: the events in the first keys, the stretches in the first rows
+pub profiled : (r : ℕ) (x : ℤ) (ts : List Task) (ks : List ℕ) (c : Common) (ss : List Stretch) (m k : ℕ) →
+    Fitting ts →
+    length ts ≤ 256 →
+    powerLow ≤ℤ x →
+    x ≤ℤ powerHigh →
+    ks ≡ keysOf r ts →
+    c ≡ common r nobody ts →
+    Sweeps c (negℤ x) ks ss m →
+    FirstShort (take m ss) k →
+    Profile r (λ _. x) ts (take m ss) (ltb k m)
+profiled r x ts ks c ss m k fits h a b p q w s =
+    let f = each-by Fit noTask ts (λ i l. fit-is (getD ts i noTask) (fits i l)) in
+    let o : Sorted (keysOf r ts) (w .keys) = rw p at (w .sorted) in
+    let e = rw q at (w .are) in
+    let l : length (take m ss) ≡ m = length-take-le m ss (w .few) in
+    let n = rw (← e, l) at (profile-of r x ts f (w .keys) o h a b k (rw e at s)) in
+    n
+
+-- the first short of all the rows, found among the first n
+pub first-in : (ss : List Stretch) (n k : ℕ) → n ≤ length ss → k ≤ n →
+    ((q : ℕ) → q < k → pos 0 ≤ℤ getD ss q noStretch .tight .0) →
+    (k < n → getD ss k noStretch .tight .0 <ℤ pos 0) →
+    FirstShort (take n ss) k
+first-in ss n k h l before there =
+    let e = length-take-le n ss h in
+    record {
+      within = omega (arith, e);
+      before = λ q g. rw (getD-take n ss q noStretch (omega arith)) (before q g);
+      there = λ g. let i : k < n = omega (arith, e) in rw (getD-take n ss k noStretch i) (there i);
+    }

@@ -21,6 +21,16 @@ use Rattle.stretches.specs.Tells.{big, Tells}
 abbrev pub Fitting : List Task → Type 0
 Fitting ts = (k : ℕ) → k < length ts → rangesFit (getD ts k noTask) ≡ true
 
+-- what is lent is long enough for every event and every stretch
+pub record Lent (tasks r : ℕ) (limit : ℤ) (keys spare stretches : ℕ) : Type 0 where
+  pub tasks-few : tasks ≤ 256
+  pub place : r < 64
+  pub least : powerLow ≤ℤ limit
+  pub most : limit ≤ℤ powerHigh
+  pub keys-long : 1024 ≤ keys
+  pub spare-long : 1024 ≤ spare
+  pub stretches-long : 1025 ≤ stretches
+
 -- days and powers small enough for the sums that are made of them
 pub record Bounded (s : Stretch) : Type 0 where
   pub first : dayLow ≤ℤ s .from .0

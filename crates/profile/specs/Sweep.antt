@@ -1,12 +1,15 @@
 -- The sweep over rising keys: a stretch up to each key's day, with what the keys before it add up to; those that no rule could touch left out.
 use mathlib.Core.Bool.{Bool}
 use mathlib.Core.List.{List, [], _∷_, _++_}
-use Prim.Native.Nat.{ℕ}
+use mathlib.Core.Path.{_≡_}
+use Prim.Native.Nat.{ℕ, _≤_}
+use lib.ListN.{length, take}
 use lib.IntN.{ℤ, pos, _+ℤ_}
 use lib.Signed.{ltZ}
 use Rattle.integers.specs.Tests.{if, and, or}
 use Rattle.plan.specs.Days.{day}
 use Rattle.plan.specs.Powers.{power}
+use Rattle.sorting.specs.Order.{Sorted}
 use Rattle.stretches.specs.declared.Stretch.{Stretch}
 use Rattle.stretches.specs.Tells.{big}
 use Rattle.profile.specs.declared.Common.{Common}
@@ -39,3 +42,10 @@ worthy c t = if (worth c t) (t ∷ []) []
 unfoldable pub swept : Common → ℤ → Level → List ℕ → List Stretch
 swept c a v [] = worthy c (stretchIn a (c .high .0) v)
 swept c a v (k ∷ ks) = worthy c (stretchIn a (dayOf k) v) ++ swept c (dayOf k) (changed v k) ks
+
+-- the first n rows hold what the keys, once they are in rising order, make
+pub record Sweeps (c : Common) (start : ℤ) (ks : List ℕ) (ss : List Stretch) (n : ℕ) : Type 0 where
+  pub keys : List ℕ
+  pub sorted : Sorted ks keys
+  pub few : n ≤ length ss
+  pub are : take n ss ≡ swept c (c .low .0) (level start (pos 0)) keys

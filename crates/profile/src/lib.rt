@@ -17,8 +17,8 @@ ghost use Rattle.stretches.specs.View.{stretchesOf};
 ghost use Rattle.profile.specs.Keys.{dayOf, powerOf, sureOf, keyOf, EventFits};
 ghost use Rattle.profile.specs.Laid.{Laid};
 ghost use Rattle.profile.specs.Events.{count, ChangeFits, change, changeKeys, hopeful, surely, fixed, taskKeys, barOf, liftOf, withTask, eventsOf, joined, keysOf, common, nobody};
-ghost use Rattle.profile.specs.Promise.{Fitting};
-ghost use Rattle.profile.specs.Sweep.{changed, tightIn, stretchIn, worth, worthy, swept, level};
+ghost use Rattle.profile.specs.Promise.{Fitting, Lent, FirstShort, Profile};
+ghost use Rattle.profile.specs.Sweep.{changed, tightIn, stretchIn, worth, worthy, swept, level, Sweeps};
 use plan::Day;
 use plan::Power;
 use plan::Task;
@@ -340,4 +340,70 @@ fn sweep(keys: &[u64], start: Power, c: Common, s: &mut [[i64; 4]]) -> usize
     }
     let t = stretch_in(from, c.high, v);
     put_worthy(s, n, t, c)
+}
+
+// the stretches that the first n events make, in any order
+fn sweep_events(
+    keys: &mut [u64],
+    n: usize,
+    spare: &mut [u64],
+    start: Power,
+    c: Common,
+    s: &mut [[i64; 4]],
+) -> usize
+    requires { ⌜ (n ≤ length (now keys)) × (n ≤ 1024) × (n ≤ length (now spare)) × (n < length (now s)) ⌝ }
+    requires { ⌜ (powerLow ≤ℤ start .0) × (start .0 ≤ℤ powerHigh) ⌝ }
+    ensures { λ r. ⌜ Sweeps c (start .0) (take n (now (keys .entry))) (stretchesOf (now (s .exit))) r ⌝ }
+{
+    sorting::sort(&mut keys[..n], spare);
+    sweep(&keys[..n], start, c, s)
+}
+
+// ---- shortfall
+
+// the first of n stretches on which a task is sure and the hopes are below the limit, or n
+pub fn first_short(s: &[[i64; 4]], n: usize) -> usize
+    requires { ⌜ n ≤ length (now s) ⌝ }
+    ensures { λ r. ⌜ FirstShort (take n (stretchesOf (now (s .entry)))) r ⌝ }
+{
+    let mut k: usize = 0;
+    while k < n {
+        let t = stretches::stretch_at(s, k);
+        let tight = t.tight;
+        if tight.below(Power(0)) {
+            return k;
+        }
+        k += 1;
+    }
+    n
+}
+
+// ---- all joined
+
+// How many stretches there are, and whether there is a shortfall.
+pub struct Profiled {
+    pub stretches: usize,
+    pub short: bool,
+}
+
+// The stretches of resource r, in ss. What is lent in keys and spare is worked in, and what it holds is of no account.
+pub fn profile(
+    s: &[[i64; 9]],
+    r: u64,
+    limit: Power,
+    keys: &mut [u64],
+    spare: &mut [u64],
+    ss: &mut [[i64; 4]],
+) -> Profiled
+    requires { ⌜ Lent (length (now s)) r (limit .0) (length (now keys)) (length (now spare)) (length (now ss)) ⌝ }
+    requires { ⌜ Fitting (tasksOf (now s)) ⌝ }
+    ensures { λ q. ⌜ q .stretches ≤ length (now (ss .exit)) ⌝ }
+    ensures { λ q. ⌜ Profile r (λ _. limit .0) (tasksOf (now (s .entry))) (take (q .stretches) (stretchesOf (now (ss .exit)))) (q .short) ⌝ }
+{
+    let q = collect(s, r, keys);
+    let n = q.events;
+    let c = q.common;
+    let m = sweep_events(keys, n, spare, limit.negated(), c, ss);
+    let k = first_short(ss, m);
+    Profiled { stretches: m, short: k < m }
 }
