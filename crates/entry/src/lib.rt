@@ -168,9 +168,10 @@ pub fn check_lists(tasks: usize, resources: usize, q: &[[i64; 2]], s: &[[i64; 9]
         return Entry::Refused(Refusal::ResourceCount);
     }
     if 16 < resources {
-        return Entry::Refused(Refusal::ResourceCount);
+        Entry::Refused(Refusal::ResourceCount)
+    } else {
+        check_contents(q, s)
     }
-    check_contents(q, s)
 }
 
 // The rows' own lists, of any length.

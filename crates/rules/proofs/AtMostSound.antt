@@ -1,11 +1,11 @@
 -- The resource step loses no allowed choice in either sense: at most goes over the negated choice.
-use mathlib.Core.Path.{_≡_, refl, sym, ap, _∙_}
-use Prim.Native.Nat.{ℕ, zero, suc, _+_}
+use mathlib.Core.Path.{_≡_, refl, ap}
+use Prim.Native.Nat.{ℕ}
 use mathlib.Core.List.{List, [], _∷_, map}
-use mathlib.Core.Bool.{Bool, true, false}
-use lib.IntN.{ℤ, pos, _+ℤ_, negℤ}
-use lib.Signed.{leZ, ltZ, _≤ℤ_}
-use Rattle.integers.specs.Tests.{if, or, any}
+use mathlib.Core.Bool.{true}
+use lib.IntN.{ℤ, _+ℤ_, negℤ}
+use lib.Signed.{leZ}
+use Rattle.integers.specs.Tests.{or, any}
 use Rattle.integers.specs.Sums.{sumOf}
 use Rattle.integers.proofs.Z.{z, +z, ~z, leZ-in}
 use Rattle.integers.proofs.Tests.{by-cases}
@@ -14,8 +14,7 @@ use Rattle.plan.specs.declared.Sense.{Sense}
 use Rattle.plan.specs.declared.Sense.the-variants.{AtMost, AtLeast}
 use Rattle.plan.specs.Powers.{turned}
 use Rattle.rules.specs.Allowed.{Choice, covers, adds, level, meets}
-use Rattle.rules.specs.Balance.{Outcome}
-use Rattle.rules.specs.Step.{atLeastStep, negated, negatedPlan, resourceStep}
+use Rattle.rules.specs.Step.{negated, resourceStep}
 use Rattle.rules.proofs.Inside.{Inside, Fit}
 use Rattle.rules.proofs.Inside.Fit.{none, more}
 use Rattle.rules.proofs.Limits.{Holds}

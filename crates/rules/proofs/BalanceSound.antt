@@ -1,17 +1,14 @@
 -- Balance loses no choice with origin + duration = end.
-use mathlib.Core.Path.{_≡_, refl, sym, ap, _∙_}
-use mathlib.Core.List.{List, [], _∷_}
-use mathlib.Core.Bool.{Bool, true, false}
-use lib.IntN.{ℤ, _+ℤ_, _-ℤ_}
-use lib.Signed.{leZ, ltZ, _≤ℤ_}
-use Rattle.integers.specs.Tests.{if}
+use mathlib.Core.Path.{_≡_}
+use mathlib.Core.List.{List}
+use lib.IntN.{_+ℤ_, _-ℤ_}
 use Rattle.integers.proofs.Z.{z, +z, -z, maxz, minz, ltZ-out}
 use Rattle.plan.specs.declared.Task.{Task}
-use Rattle.plan.specs.declared.Narrowed.the-variants.{Kept, RanOut}
-use Rattle.plan.specs.Days.{cutBelow, cutAbove, cutTo, emptySpan}
+use Rattle.plan.specs.declared.Narrowed.the-variants.{Kept}
+use Rattle.plan.specs.Days.{cutBelow, cutAbove, cutTo}
 use Rattle.rules.specs.Allowed.{Choice}
 use Rattle.rules.specs.Balance.{cuts, unlessEmpty, balanced, balance}
-use Rattle.rules.proofs.Inside.{Inside, Fit, For, for-inside, for-joined}
+use Rattle.rules.proofs.Inside.{Inside, Fit, for-inside, for-joined}
 use Rattle.rules.proofs.Stays.{TaskStays, PlanStays, each-stays}
 
 cuts-inside : (t : Task) (c : Choice) → Inside t c → c .origin +ℤ c .duration ≡ c .end → Inside (cuts t) c

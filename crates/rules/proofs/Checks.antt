@@ -1,30 +1,31 @@
 -- What the entry checks say of every task, and that a plan inside an accepted one is accepted again.
-use mathlib.Core.Path.{_≡_, refl, sym, ap, _∙_, subst}
-use Prim.Native.Nat.{ℕ, zero, suc, _+_, _^_, _≤_, _<_}
+use mathlib.Core.Path.{_≡_, refl, sym, _∙_, subst}
+use Prim.Native.Nat.{ℕ, suc, _^_, _≤_, _<_}
 use native.Mathlib.Omega.{arith}
 use native.Mathlib.Nat.{pow-le-pow-right}
 use mathlib.Core.List.{List, [], _∷_}
 use mathlib.Core.Bool.{Bool, true, false, not}
 use lib.IntN.{ℤ}
-use lib.Signed.{leZ, ltZ, _≤ℤ_}
+use lib.Signed.{leZ, _≤ℤ_}
 use lib.Dec.{T, eqb, ltb, ltb→lt, nltb→le, lt→ltb}
 use lib.ListN.{length}
 use Rattle.integers.specs.Tests.{and, or}
 use Rattle.integers.proofs.Z.{z, leZ-in}
-use Rattle.integers.proofs.Tests.{by-cases, clash, and-first, and-second, and-in, not-out}
+use Rattle.integers.proofs.Tests.{clash, and-first, and-second}
 use Rattle.integers.proofs.Hull.{Sub}
 use Rattle.plan.specs.declared.Task.{Task}
 use Rattle.plan.specs.declared.Span.{Span}
 use Rattle.plan.specs.declared.PowerSpan.{PowerSpan}
 use Rattle.plan.specs.declared.Resource.{Resource}
 use Rattle.plan.specs.declared.Refusal.{Refusal}
-use Rattle.plan.specs.declared.Refusal.the-variants.{TooManyTasks, ResourceCount, RangeOutside, SetOutside}
+use Rattle.plan.specs.declared.Refusal.the-variants.{TooManyTasks, ResourceCount, LimitOutside, RangeOutside, SetOutside}
 use Rattle.plan.specs.Days.{daysOf, dayLow, dayHigh, durationLow, durationHigh, spanFits}
-use Rattle.plan.specs.Powers.{powerLow, powerHigh, powersOf, powersFit}
-use Rattle.plan.specs.Sets.{has}
-use Rattle.plan.proofs.Sets.{SubSet, sub-le}
+use Rattle.plan.specs.Powers.{powerLow, powerHigh, powersOf, powersFit, powerFits}
+use Rattle.plan.proofs.Sets.{sub-le}
 use Rattle.rules.specs.Calls.{Checked, orElse, refuseIf, rangesFit, setFits, tasksFit, check, repeats, limits, mostTasks, mostResources}
 use Rattle.rules.specs.Calls.Checked.{Accepted, Refuse}
+use Rattle.rules.proofs.Limits.{ResourceAt}
+use Rattle.rules.proofs.Limits.ResourceAt.{first, next}
 use Rattle.rules.proofs.Live.{Live, Lives, live-fits}
 use Rattle.rules.proofs.Live.Lives.{no-lives, more-lives}
 use Rattle.rules.proofs.Subs.{SubTask, Subs, subs-length}
@@ -118,13 +119,13 @@ ranges-kept t u h l e =
     let y = spanFits durationLow durationHigh (t .duration) in
     let w = spanFits dayLow dayHigh (t .end) in
     let v = powersFit (t .height) in
-    let e₁ : and y (and w v) ≡ true = and-second x (and y (and w v)) e in
-    let e₂ : and w v ≡ true = and-second y (and w v) e₁ in
+    let after-origin : and y (and w v) ≡ true = and-second x (and y (and w v)) e in
+    let after-duration : and w v ≡ true = and-second y (and w v) after-origin in
     rw (
       span-kept dayLow dayHigh (t .origin) (u .origin) (h .origin) (l .origin) (and-first x (and y (and w v)) e),
-      span-kept durationLow durationHigh (t .duration) (u .duration) (h .duration) (l .duration) (and-first y (and w v) e₁),
-      span-kept dayLow dayHigh (t .end) (u .end) (h .end) (l .end) (and-first w v e₂),
-      powers-kept (t .height) (u .height) (h .height) (l .height) (and-second w v e₂),
+      span-kept durationLow durationHigh (t .duration) (u .duration) (h .duration) (l .duration) (and-first y (and w v) after-origin),
+      span-kept dayLow dayHigh (t .end) (u .end) (h .end) (l .end) (and-first w v after-duration),
+      powers-kept (t .height) (u .height) (h .height) (l .height) (and-second w v after-duration),
     )
 
 true-of : (b : Bool) → T b → b ≡ true
@@ -207,3 +208,15 @@ module _ (qs : List Resource) (ts : List Task) (h : check qs ts ≡ Accepted) wh
 
       same : check qs us ≡ check qs ts
       same = check-same qs us ts (subs-length s) fits
+
+-- the limit of each resource of the list lies within its ends
+limit-at : (q : Resource) (r k : ℕ) (qs : List Resource) → ResourceAt q r k qs → limits k qs ≡ Accepted → powerFits (q .limit) ≡ true
+unfolding limits
+limit-at q r k qs (first {qs = ps}) h =
+    not-not (powerFits (q .limit))
+    (refuse-not (not (powerFits (q .limit))) (LimitOutside k) (or-else-first (refuseIf (not (powerFits (q .limit))) (LimitOutside k)) (limits (suc k) ps) h))
+limit-at q r k qs (next {p} {qs = ps} at) h =
+    limit-at q r (suc k) ps at (or-else-second (refuseIf (not (powerFits (p .limit))) (LimitOutside k)) (limits (suc k) ps) h)
+
+pub check-limit : (qs : List Resource) (ts : List Task) → check qs ts ≡ Accepted → (r : ℕ) (q : Resource) → ResourceAt q r 0 qs → powerFits (q .limit) ≡ true
+check-limit qs ts h r q at = limit-at q r 0 qs at (check-limits qs ts h)

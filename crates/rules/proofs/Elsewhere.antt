@@ -1,16 +1,16 @@
 -- A change elsewhere does not concern r: where the step of r changes nothing on ts, it changes nothing on ts with some tasks replaced,
 -- if none of those has r in its set, before or after.
 use mathlib.Core.Path.{_≡_, refl, sym, ap, ap₂, _∙_, subst}
-use Prim.Native.Nat.{ℕ, zero, suc, _+_, _^_}
+use Prim.Native.Nat.{ℕ, _^_}
 use native.Mathlib.Omega.{arith}
 use mathlib.Core.List.{List, [], _∷_}
 use mathlib.Core.Bool.{Bool, true, false, not}
-use lib.IntN.{ℤ, pos, _+ℤ_, _-ℤ_, +ℤ-idl}
-use lib.Signed.{leZ, ltZ, _≤ℤ_, _<ℤ_}
-use Rattle.integers.specs.Tests.{if, and, or, implies, filter, all, any}
+use lib.IntN.{ℤ, pos, _+ℤ_, _-ℤ_}
+use lib.Signed.{leZ, ltZ}
+use Rattle.integers.specs.Tests.{if, and, or, implies, all, any}
 use Rattle.integers.specs.Sums.{sumOf}
 use Rattle.integers.specs.Hull.{Range, hull, values, left}
-use Rattle.integers.proofs.Tests.{clash, by-cases, if-case, false-in, same-test, implies-in, and-in, and-first, and-second, not-in, not-out, not-any, all-in, any-none, filter-same}
+use Rattle.integers.proofs.Tests.{clash, by-cases, if-case, false-in, same-test, and-first, and-second, not-out, not-any, or-left, all-in, any-none, filter-same}
 use Rattle.plan.specs.declared.Task.{Task}
 use Rattle.plan.specs.declared.Narrowed.{Narrowed}
 use Rattle.plan.specs.declared.Narrowed.the-variants.{Kept, RanOut}
@@ -21,18 +21,43 @@ use Rattle.plan.specs.Sets.{has, only, without}
 use Rattle.rules.specs.Balance.{Outcome, andThen, each}
 use Rattle.rules.specs.Balance.Outcome.{NoPlan, Plan}
 use Rattle.rules.specs.Step.{possible, running, sure, hope, total, others, counts, shortfall, needed, barred, shut, keepsOrigin, keepsDuration, keepsEnd, keepsHeight, neededSet, keptSet, narrowed, listedDays, atLeastStep, resourceStep}
+use Rattle.rules.specs.Settle.{sameTask}
 use Rattle.rules.proofs.Days.{In, every-day}
 use Rattle.rules.proofs.Days.In.{head, tail}
 use Rattle.rules.proofs.Live.{Live, Lives}
+use Rattle.rules.proofs.Live.Lives.{no-lives, more-lives}
+use Rattle.rules.proofs.Subs.{Subs}
+use Rattle.rules.proofs.Subs.Subs.{no-subs, more-subs}
+use Rattle.rules.proofs.Rooms.{same-task-is}
 use Rattle.rules.proofs.Shrinks.{Shrunk, resource-step-shrunk}
 use Rattle.rules.proofs.Quiet.{possible-away, sure-away, narrowed-away}
-use Rattle.rules.proofs.Unlisted.{sure-possible, needed-possible, barred-possible, shut-possible, live-in, no-shortfall-ever}
+use Rattle.rules.proofs.Possible.{no-sure, no-need, no-bar, no-shut}
+use Rattle.rules.proofs.Unlisted.{live-in, no-shortfall-ever}
 
 -- us is ts with some tasks replaced, none of which has r in its set; what replaces is not empty
 pub data Beside (r : ℕ) : List Task → List Task → Type 0 where
   no-tasks : Beside r [] []
   same-task : {t : Task} {ts us : List Task} → Beside r ts us → Beside r (t ∷ ts) (t ∷ us)
   other-task : {t u : Task} {ts us : List Task} → has (t .set) r ≡ false → has (u .set) r ≡ false → Live u → Beside r ts us → Beside r (t ∷ ts) (u ∷ us)
+
+-- as a test, on what a step left: each task is as it was, or did not have r
+unfoldable pub besideTest : ℕ → List Task → List Task → Bool
+besideTest r [] [] = true
+besideTest r [] (u ∷ us) = false
+besideTest r (t ∷ ts) [] = false
+besideTest r (t ∷ ts) (u ∷ us) = and (or (sameTask t u) (not (has (t .set) r))) (besideTest r ts us)
+
+pub beside-is : (r : ℕ) {ts us : List Task} → Subs us ts → Lives us → besideTest r ts us ≡ true → Beside r ts us
+unfolding besideTest
+beside-is r no-subs no-lives h = no-tasks
+beside-is r (more-subs {u} {t} {us} {ts} s f) (more-lives l k) h =
+    let rest = beside-is r f k (and-second (or (sameTask t u) (not (has (t .set) r))) (besideTest r ts us) h) in
+    by-cases (sameTask t u)
+    (λ e. subst (λ v. Beside r (t ∷ ts) (v ∷ us)) (same-task-is t u e) (same-task rest))
+    (λ e.
+    let away : has (t .set) r ≡ false =
+    not-out (has (t .set) r) (sym (or-left (sameTask t u) (not (has (t .set) r)) e) ∙ and-first (or (sameTask t u) (not (has (t .set) r))) (besideTest r ts us) h) in
+    other-task away (false-in (has (u .set) r) (λ g. clash (has (t .set) r) (s .set r g) away)) l rest)
 
 -- ---- what the rules of r read of the list stays
 hope-away : (r : ℕ) (t : Task) → has (t .set) r ≡ false → (i : ℤ) → hope r i t ≡ pos 0
@@ -73,22 +98,10 @@ module _ (r : ℕ) (limit : ℤ → ℤ) (t : Task) (l : Live t) (ts us : List T
   unfolding shut
   shut-same i = ap (and (only (t .set) r)) (barred-same i)
 
-  no-need : (i : ℤ) → possible r i t ≡ false → needed r limit ts t i ≡ false
-  no-need i e = false-in (needed r limit ts t i) (λ h. clash (possible r i t) (needed-possible r i t limit ts h) e)
-
-  no-bar : (i : ℤ) → possible r i t ≡ false → barred r limit ts t i ≡ false
-  no-bar i e = false-in (barred r limit ts t i) (λ h. clash (possible r i t) (barred-possible r i t limit ts h) e)
-
-  no-shut : (i : ℤ) → possible r i t ≡ false → shut r limit ts t i ≡ false
-  no-shut i e = false-in (shut r limit ts t i) (λ h. clash (possible r i t) (shut-possible r i t limit ts h) e)
-
-  no-sure : (i : ℤ) → possible r i t ≡ false → sure r i t ≡ false
-  no-sure i e = false-in (sure r i t) (λ h. clash (possible r i t) (sure-possible r i t l h) e)
-
   spoken : (p q : ℤ → Bool) → all (λ i. and (implies (needed r limit ts t i) (p i)) (implies (shut r limit ts t i) (q i))) (listedDays ts) ≡ true → all (λ i. and (implies (needed r limit us t i) (p i)) (implies (shut r limit us t i) (q i))) days ≡ true
   spoken p q h =
       all-in _ days λ i.
-      across i (every-day r (λ i. and (implies (needed r limit ts t i) (p i)) (implies (shut r limit ts t i) (q i))) t ts k (λ i e. rw (no-need i e, no-shut i e)) h i)
+      across i (every-day r (λ i. and (implies (needed r limit ts t i) (p i)) (implies (shut r limit ts t i) (q i))) t ts k (λ i e. rw (no-need r i t limit ts e, no-shut r i t limit ts e)) h i)
     where
       across : (i : ℤ) → and (implies (needed r limit ts t i) (p i)) (implies (shut r limit ts t i) (q i)) ≡ true → and (implies (needed r limit us t i) (p i)) (implies (shut r limit us t i) (q i)) ≡ true
       across i g = rw (needed-same i, shut-same i) at g
@@ -104,7 +117,7 @@ module _ (r : ℕ) (limit : ℤ → ℤ) (t : Task) (l : Live t) (ts us : List T
   shut-spoken : (p : ℤ → Bool) → all (λ i. implies (shut r limit ts t i) (p i)) (listedDays ts) ≡ true → all (λ i. implies (shut r limit us t i) (p i)) days ≡ true
   shut-spoken p h =
       all-in _ days λ i.
-      rw (shut-same i) at (every-day r (λ i. implies (shut r limit ts t i) (p i)) t ts k (λ i e. rw (no-shut i e)) h i)
+      rw (shut-same i) at (every-day r (λ i. implies (shut r limit ts t i) (p i)) t ts k (λ i e. rw (no-shut r i t limit ts e)) h i)
 
   duration-over : (v : ℤ) → keepsDuration r limit ts (listedDays ts) t v ≡ true → keepsDuration r limit us days t v ≡ true
   unfolding keepsDuration
@@ -114,7 +127,7 @@ module _ (r : ℕ) (limit : ℤ → ℤ) (t : Task) (l : Live t) (ts us : List T
   unfolding keepsHeight
   height-over v h =
       all-in _ days λ i.
-      rw (others-same i) at (every-day r (λ i. implies (sure r i t) (leZ (limit i -ℤ others r ts t i) v)) t ts k (λ i e. rw (no-sure i e)) h i)
+      rw (others-same i) at (every-day r (λ i. implies (sure r i t) (leZ (limit i -ℤ others r ts t i) v)) t ts k (λ i e. rw (no-sure r i t l e)) h i)
 
   -- a rule that never fires on the listed days never fires
   never-over : (p q : ℤ → Bool) → ((i : ℤ) → possible r i t ≡ false → p i ≡ false) → ((i : ℤ) → p i ≡ q i) → any p (listedDays ts) ≡ false → any q days ≡ false
@@ -124,12 +137,12 @@ module _ (r : ℕ) (limit : ℤ → ℤ) (t : Task) (l : Live t) (ts us : List T
       (not-out (p i) (every-day r (λ i. not (p i)) t ts k (λ i g. rw (f i g)) (not-any p (listedDays ts) h) i))
 
   needed-over : any (needed r limit ts t) (listedDays ts) ≡ false → any (needed r limit us t) days ≡ false
-  needed-over h = never-over (needed r limit ts t) (needed r limit us t) no-need needed-same h
+  needed-over h = never-over (needed r limit ts t) (needed r limit us t) (λ i e. no-need r i t limit ts e) needed-same h
 
   barred-over : any (λ i. and (barred r limit ts t i) (running r i t)) (listedDays ts) ≡ false → any (λ i. and (barred r limit us t i) (running r i t)) days ≡ false
   barred-over h =
       never-over (λ i. and (barred r limit ts t i) (running r i t)) (λ i. and (barred r limit us t i) (running r i t))
-      (λ i e. rw (no-bar i e))
+      (λ i e. rw (no-bar r i t limit ts e))
       (λ i. ap (λ b. and b (running r i t)) (barred-same i))
       h
 

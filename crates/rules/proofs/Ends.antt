@@ -1,11 +1,9 @@
 -- Settling ends: each pass but the last takes some room away, so there is at most one pass more than there is room, and a pass that
 -- finds no plan comes within as many.
-use mathlib.Core.Path.{_≡_, refl, sym, ap, _∙_, subst}
+use mathlib.Core.Path.{_≡_, refl, ap, _∙_}
 use Prim.Native.Nat.{ℕ, zero, suc, _+_, _≤_, _<_}
 use native.Mathlib.Omega.{arith}
-use mathlib.Core.List.{List, [], _∷_}
-use mathlib.Core.Bool.{Bool, true, false}
-use Rattle.integers.specs.Tests.{if}
+use mathlib.Core.List.{List}
 use Rattle.integers.proofs.Tests.{if-case}
 use Rattle.plan.specs.declared.Task.{Task}
 use Rattle.plan.specs.declared.Resource.{Resource}
@@ -17,7 +15,7 @@ use Rattle.rules.specs.Settle.Settled.{Refused, After, Unsettled}
 use Rattle.rules.specs.Moves.{passes}
 use Rattle.rules.specs.Calls.{check}
 use Rattle.rules.specs.Calls.Checked.{Accepted}
-use Rattle.rules.proofs.Keeps.{Keeps, Sound}
+use Rattle.rules.proofs.Keeps.{Sound}
 use Rattle.rules.proofs.Passes.{pass-sound}
 use Rattle.rules.proofs.Rooms.{keeps-less}
 

@@ -1,11 +1,10 @@
 -- One fixed choice: a pass finds no plan exactly where the choice breaks a rule, and else changes nothing.
 use mathlib.Core.Path.{_≡_, refl, sym, ap, ap₂, _∙_, subst}
-use Prim.Native.Nat.{ℕ, zero, suc, _+_, _^_, _≤_, _<_}
+use Prim.Native.Nat.{ℕ, suc, _^_, _<_}
 use native.Mathlib.Omega.{arith}
 use mathlib.Core.List.{List, [], _∷_, map}
-use mathlib.Core.Bool.{Bool, true, false}
+use mathlib.Core.Bool.{true, false}
 use lib.IntN.{ℤ}
-use lib.Dec.{eqb}
 use Rattle.integers.specs.Whole.{eqZ}
 use Rattle.integers.specs.Tests.{if, and, all}
 use Rattle.integers.specs.Hull.{Range, range}
@@ -20,7 +19,7 @@ use Rattle.plan.specs.Powers.{powersOf, powerSpanOf}
 use Rattle.plan.specs.Sets.{has, size}
 use Rattle.plan.proofs.Sets.{eqb-true, has-alone, alone-only, has-le, size-same, size-some, some-place}
 use Rattle.rules.specs.Allowed.{Choice, inside, insideAll, joined, holds, holdsFrom, limitOn, allowed}
-use Rattle.rules.specs.Balance.{Outcome, balance}
+use Rattle.rules.specs.Balance.{Outcome}
 use Rattle.rules.specs.Balance.Outcome.{NoPlan, Plan}
 use Rattle.rules.specs.Settle.{then, stepsFrom, pass}
 use Rattle.rules.specs.Fixed.{fixed, oneValue, oneResource}
@@ -30,7 +29,7 @@ use Rattle.rules.proofs.Inside.{Inside, inside-is, inside-in}
 use Rattle.rules.proofs.Live.{Live, Lives}
 use Rattle.rules.proofs.Live.Lives.{no-lives, more-lives}
 use Rattle.rules.proofs.Checks.{Smalls, check-live, check-small}
-use Rattle.rules.proofs.Checks.Smalls.{no-smalls, more-smalls}
+use Rattle.rules.proofs.Checks.Smalls.{more-smalls}
 use Rattle.rules.proofs.FixedSteps.{resource-step-fixed, balance-fixed}
 
 -- ---- the choice as a list of choices

@@ -1,8 +1,8 @@
 -- One fixed choice: balance and each resource step leave it as it is exactly where it keeps their rules, and find no plan elsewhere.
 use mathlib.Core.Path.{_≡_, refl, sym, ap, ap₂, _∙_, subst, subst₂}
-use Prim.Native.Nat.{ℕ, zero, suc, _+_, _^_}
+use Prim.Native.Nat.{ℕ, _^_}
 use mathlib.Core.List.{List, [], _∷_, map}
-use mathlib.Core.Bool.{Bool, true, false, not}
+use mathlib.Core.Bool.{true, false, not}
 use lib.IntN.{ℤ, pos, _+ℤ_, _-ℤ_, negℤ}
 use lib.Signed.{leZ, ltZ, _≤ℤ_, _<ℤ_}
 use lib.Dec.{eqb}
@@ -19,7 +19,7 @@ use Rattle.plan.specs.declared.Narrowed.the-variants.{Kept, RanOut}
 use Rattle.plan.specs.declared.Value.the-variants.{Origin}
 use Rattle.plan.specs.declared.Sense.{Sense}
 use Rattle.plan.specs.declared.Sense.the-variants.{AtMost, AtLeast}
-use Rattle.plan.specs.Days.{daysOf, spanOf, cutBelow, cutAbove, cutTo, emptySpan}
+use Rattle.plan.specs.Days.{daysOf, spanOf, cutBelow, cutAbove, cutTo}
 use Rattle.plan.specs.Powers.{powersOf, powerSpanOf, turned}
 use Rattle.plan.specs.Sets.{has, only}
 use Rattle.plan.proofs.Sets.{eqb-true, eqb-in, has-alone, has-not-zero, alone-only, alone-is}
@@ -30,14 +30,14 @@ use Rattle.rules.specs.Step.{possible, running, sure, hope, total, count
 use Rattle.rules.specs.Fixed.{fixed}
 use Rattle.rules.proofs.Days.{In, listed}
 use Rattle.rules.proofs.Days.In.{head, tail}
-use Rattle.rules.proofs.Inside.{Inside, Covers, Fit, covers-is, joined-is}
+use Rattle.rules.proofs.Inside.{Inside, Fit, covers-is, joined-is}
 use Rattle.rules.proofs.Inside.Fit.{none, more}
 use Rattle.rules.proofs.Limits.{Holds, holds-is, holds-in}
 use Rattle.rules.proofs.Stays.{PlanStays}
 use Rattle.rules.proofs.StepSound.{step-stays}
 use Rattle.rules.proofs.BalanceSound.{balance-stays}
 use Rattle.rules.proofs.AtMostSound.{negatedChoice, holds-turn, holds-unturn}
-use Rattle.rules.proofs.Live.{Live, Lives}
+use Rattle.rules.proofs.Live.{Lives}
 use Rattle.rules.proofs.Live.Lives.{no-lives, more-lives}
 use Rattle.rules.proofs.Subs.{SubTask, Subs}
 use Rattle.rules.proofs.Subs.Subs.{no-subs, more-subs}

@@ -1,12 +1,12 @@
 -- What an allowed choice adds on a day is at most its task's hope, so a level is at most the total of hopes, and what the others add
 -- is at most `others`.
-use mathlib.Core.Path.{_≡_, refl, sym, ap, _∙_, subst}
-use Prim.Native.Nat.{ℕ, zero, suc, _+_, _^_}
-use mathlib.Core.List.{List, [], _∷_}
-use mathlib.Core.Bool.{Bool, true, false}
+use mathlib.Core.Path.{_≡_, sym, _∙_}
+use Prim.Native.Nat.{ℕ}
+use mathlib.Core.List.{List}
+use mathlib.Core.Bool.{true}
 use lib.IntN.{ℤ, pos, _+ℤ_, _-ℤ_}
 use lib.Signed.{leZ, ltZ, _≤ℤ_, _<ℤ_}
-use Rattle.integers.specs.Tests.{if, and, or, any}
+use Rattle.integers.specs.Tests.{if, and, any}
 use Rattle.integers.specs.Sums.{sumOf}
 use Rattle.integers.proofs.Z.{z, +z, -z, leZ-in, ltZ-in}
 use Rattle.integers.proofs.Tests.{clash, by-cases, if-case, and-first, and-second, and-in, or-left, any-first, any-later}

@@ -1,13 +1,13 @@
 -- A choice inside a task's set and ranges, and one choice for each task of a list: what those tests say, fact by fact.
-use mathlib.Core.Path.{_≡_, refl, sym, ap, _∙_, subst}
-use Prim.Native.Nat.{ℕ, zero, suc, _+_}
-use mathlib.Core.List.{List, [], _∷_, map}
-use mathlib.Core.Bool.{Bool, true, false}
+use mathlib.Core.Path.{_≡_, refl}
+use Prim.Native.Nat.{ℕ}
+use mathlib.Core.List.{List, [], _∷_}
+use mathlib.Core.Bool.{true, false}
 use lib.IntN.{ℤ, _+ℤ_}
 use lib.Signed.{leZ, ltZ, _≤ℤ_, _<ℤ_}
 use lib.Dec.{eqb}
 use Rattle.integers.specs.Tests.{and, all}
-use Rattle.integers.specs.Hull.{Range, within}
+use Rattle.integers.specs.Hull.{within}
 use Rattle.integers.proofs.Z.{z, leZ-in, ltZ-in, eqZ-is}
 use Rattle.integers.proofs.Tests.{clash, and-first, and-second, and-in}
 use Rattle.integers.proofs.Hull.{Within, within-is, within-in}

@@ -1,15 +1,16 @@
 -- Every step, and any sequence of steps, keeps the allowed plans of an accepted plan: the very same list, in the same order, inside
 -- an accepted plan whose ranges lie in the old ones; and with no plan there was none.
-use mathlib.Core.Path.{_≡_, refl, sym, ap, _∙_, subst}
-use Prim.Native.Nat.{ℕ, zero, suc, _+_}
+use mathlib.Core.Path.{_≡_, refl, sym, _∙_, subst}
+use Prim.Native.Nat.{ℕ, zero, suc}
 use native.Mathlib.Omega.{arith}
 use mathlib.Core.List.{List, [], _∷_}
-use mathlib.Core.Bool.{Bool, true, false}
-use lib.IntN.{ℤ}
+use mathlib.Core.Bool.{true, false}
+use Rattle.integers.proofs.Z.{z}
+use Rattle.integers.proofs.Tests.{false-in, same-test, and-first, and-second, and-in}
 use Rattle.plan.specs.declared.Task.{Task}
 use Rattle.plan.specs.declared.Resource.{Resource}
 use Rattle.plan.specs.declared.Sense.{Sense}
-use Rattle.rules.specs.Allowed.{Choice, insideAll, allowed, limitOn}
+use Rattle.rules.specs.Allowed.{Choice, inside, insideAll, allowed, limitOn}
 use Rattle.rules.specs.Listing.{plans}
 use Rattle.rules.specs.Balance.{Outcome, balance}
 use Rattle.rules.specs.Balance.Outcome.{NoPlan, Plan}
@@ -19,50 +20,97 @@ use Rattle.rules.specs.Moves.{Move, stepOf, move, play}
 use Rattle.rules.specs.Moves.Move.{Balance, StepOf}
 use Rattle.rules.specs.Calls.{check}
 use Rattle.rules.specs.Calls.Checked.{Accepted}
-use Rattle.rules.proofs.Inside.{Fit, fit-is, fit-in}
+use Rattle.rules.proofs.Inside.{Inside, Fit, inside-is, inside-in, fit-is, fit-in}
 use Rattle.rules.proofs.Limits.{ResourceAt, allowed-joined, allowed-holds}
 use Rattle.rules.proofs.Limits.ResourceAt.{first, next}
 use Rattle.rules.proofs.Stays.{PlanStays}
 use Rattle.rules.proofs.BalanceSound.{balance-stays}
 use Rattle.rules.proofs.AtMostSound.{resource-step-stays}
-use Rattle.rules.proofs.Subs.{Subs, subs-self, subs-trans}
-use Rattle.rules.proofs.Live.{Lives}
+use Rattle.rules.proofs.Subs.{SubTask, Subs, subs-self, subs-trans}
+use Rattle.rules.proofs.Subs.Subs.{no-subs, more-subs}
 use Rattle.rules.proofs.Shrinks.{Shrunk, balance-shrunk, resource-step-shrunk}
 use Rattle.rules.proofs.Checks.{check-live, check-kept}
 use Rattle.rules.proofs.Listings.{plans-kept, plans-none}
 
--- us has the allowed plans of ts, is accepted again and lies inside ts
+-- ---- what lies inside the narrower list lies inside the wider one
+wider : (u t : Task) (c : Choice) → SubTask u t → Inside u c → Inside t c
+wider u t c h i =
+    record {
+      set = h .set (c .resource) (i .set);
+      origin = omega (z, h .origin, i .origin);
+      duration = omega (z, h .duration, i .duration);
+      end = omega (z, h .end, i .end);
+      height = omega (z, h .height, i .height);
+    }
+
+inside-wider : {us ts : List Task} → Subs us ts → (cs : List Choice) → insideAll us cs ≡ true → insideAll ts cs ≡ true
+unfolding insideAll
+inside-wider no-subs [] h = refl
+inside-wider no-subs (c ∷ cs) h = h
+inside-wider (more-subs s f) [] h = h
+inside-wider (more-subs {u} {t} {us} {ts} s f) (c ∷ cs) h =
+    and-in (inside t c) (insideAll ts cs) (inside-in t c (wider u t c s (inside-is u c (and-first (inside u c) (insideAll us cs) h))))
+    (inside-wider f cs (and-second (inside u c) (insideAll us cs) h))
+
+-- ---- what a step, or some in a row, may answer on ts
+-- us has the allowed choices of ts, as choices and as listed, is accepted again and lies inside ts
 pub record Keeps (sense : Sense) (qs : List Resource) (ts us : List Task) : Type 0 where
+  pub choices : (cs : List Choice) → allowed sense qs cs ≡ true → insideAll us cs ≡ insideAll ts cs
   pub same : plans sense qs us ≡ plans sense qs ts
   pub accepted : check qs us ≡ Accepted
   pub inside : Subs us ts
 
--- what a step, or some in a row, may answer on ts
+-- no choice inside ts is allowed, and none is listed
+pub record Nothing (sense : Sense) (qs : List Resource) (ts : List Task) : Type 0 where
+  pub choices : (cs : List Choice) → allowed sense qs cs ≡ true → insideAll ts cs ≡ false
+  pub none : plans sense qs ts ≡ []
+
 abbrev pub Sound : Sense → List Resource → List Task → Outcome → Type 0
-Sound sense qs ts NoPlan = plans sense qs ts ≡ []
+Sound sense qs ts NoPlan = Nothing sense qs ts
 Sound sense qs ts (Plan us) = Keeps sense qs ts us
+
+pub keeps-then : {sense : Sense} {qs : List Resource} {ts us vs : List Task} → Keeps sense qs ts us → Keeps sense qs us vs → Keeps sense qs ts vs
+keeps-then h g =
+    record {
+      choices = λ cs ok. g .choices cs ok ∙ h .choices cs ok;
+      same = g .same ∙ h .same;
+      accepted = g .accepted;
+      inside = subs-trans (g .inside) (h .inside);
+    }
+
+pub nothing-then : {sense : Sense} {qs : List Resource} {ts us : List Task} → Keeps sense qs ts us → Nothing sense qs us → Nothing sense qs ts
+nothing-then h g = record { choices = λ cs ok. sym (h .choices cs ok) ∙ g .choices cs ok; none = sym (h .same) ∙ g .none }
 
 module _ (sense : Sense) (qs : List Resource) where
   -- a step that shrinks and loses no allowed choice is sound
   sound-by : (ts : List Task) → check qs ts ≡ Accepted → (o : Outcome) → Shrunk ts o → ((cs : List Choice) → allowed sense qs cs ≡ true → Fit ts cs → PlanStays cs o) → Sound sense qs ts o
   sound-by ts a NoPlan h k =
-      plans-none sense qs ts λ cs ok i.
-      let e = k cs ok (fit-is ts cs i (allowed-joined sense qs cs ok)) .is in
-      let q : _≡_ {A = ℕ} 0 1 = cc in
-      omega arith
+      record {
+        choices = λ cs ok. false-in (insideAll ts cs) (lost cs ok);
+        none = plans-none sense qs ts lost;
+      }
+    where
+      lost : (cs : List Choice) → allowed sense qs cs ≡ true → insideAll ts cs ≡ true → ⊥
+      lost cs ok i =
+          let e = k cs ok (fit-is ts cs i (allowed-joined sense qs cs ok)) .is in
+          let q : _≡_ {A = ℕ} 0 1 = cc in
+          omega arith
   sound-by ts a (Plan us) h k =
       record {
-        same =
-            plans-kept sense qs us ts (h .0) λ cs ok i.
-            let q = k cs ok (fit-is ts cs i (allowed-joined sense qs cs ok)) in
-            let e : q .tasks ≡ us = cc (q .is) in
-            subst (λ vs. insideAll vs cs ≡ true) e (fit-in (q .fit));
+        choices = λ cs ok. same-test (insideAll us cs) (insideAll ts cs) (inside-wider (h .0) cs) (stays cs ok);
+        same = plans-kept sense qs us ts (h .0) stays;
         accepted = check-kept qs ts a us (h .0) (h .1);
         inside = h .0;
       }
+    where
+      stays : (cs : List Choice) → allowed sense qs cs ≡ true → insideAll ts cs ≡ true → insideAll us cs ≡ true
+      stays cs ok i =
+          let q = k cs ok (fit-is ts cs i (allowed-joined sense qs cs ok)) in
+          let e : q .tasks ≡ us = cc (q .is) in
+          subst (λ vs. insideAll vs cs ≡ true) e (fit-in (q .fit))
 
   nothing-sound : (ts : List Task) → check qs ts ≡ Accepted → Sound sense qs ts (Plan ts)
-  nothing-sound ts a = record { same = refl; accepted = a; inside = subs-self ts }
+  nothing-sound ts a = record { choices = λ cs ok. refl; same = refl; accepted = a; inside = subs-self ts }
 
   pub balance-sound : (ts : List Task) → check qs ts ≡ Accepted → Sound sense qs ts (balance ts)
   balance-sound ts a = sound-by ts a (balance ts) (balance-shrunk (check-live qs ts a)) (λ cs ok f. balance-stays ts cs f)
@@ -78,8 +126,8 @@ module _ (sense : Sense) (qs : List Resource) where
   then-sound ts (Plan us) k h f = carry (k us) (f us (h .accepted))
     where
       carry : (o : Outcome) → Sound sense qs us o → Sound sense qs ts o
-      carry NoPlan g = sym (h .same) ∙ g
-      carry (Plan vs) g = record { same = g .same ∙ h .same; accepted = g .accepted; inside = subs-trans (g .inside) (h .inside) }
+      carry NoPlan g = nothing-then h g
+      carry (Plan vs) g = keeps-then h g
 
   step-of-sound : (k j : ℕ) (ps : List Resource) → ((r : ℕ) (q : Resource) → ResourceAt q r k ps → ResourceAt q r 0 qs) → (ts : List Task) → check qs ts ≡ Accepted → Sound sense qs ts (stepOf sense k j ps ts)
   unfolding stepOf

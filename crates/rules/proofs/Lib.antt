@@ -3,6 +3,7 @@ pub mod Days
 pub mod Walk
 pub mod Cases
 pub mod Live
+pub mod Possible
 pub mod Quiet
 pub mod Negation
 pub mod Inside
@@ -24,3 +25,7 @@ pub mod Rooms
 pub mod Ends
 pub mod Unlisted
 pub mod Elsewhere
+pub mod Still
+pub mod Sizes
+pub mod Once
+pub mod Theorems

@@ -1,14 +1,13 @@
 -- The limit of a resource on every day: the page's test runs over the days that a choice covers itself, and those are all days of
 -- all whole numbers on which the limit counts.
-use mathlib.Core.Path.{_≡_, refl, sym, ap, _∙_, subst}
-use Prim.Native.Nat.{ℕ, zero, suc, _+_}
-use mathlib.Core.List.{List, [], _∷_}
-use mathlib.Core.Bool.{Bool, true, false}
+use mathlib.Core.Path.{_≡_}
+use Prim.Native.Nat.{ℕ, suc}
+use mathlib.Core.List.{List, _∷_}
+use mathlib.Core.Bool.{Bool, true}
 use lib.IntN.{ℤ, predℤ}
-use lib.Signed.{leZ, ltZ, _≤ℤ_, _<ℤ_}
 use lib.Dec.{eqb}
-use Rattle.integers.specs.Tests.{and, implies, all, any}
-use Rattle.integers.specs.Hull.{Range, range, values}
+use Rattle.integers.specs.Tests.{all, any}
+use Rattle.integers.specs.Hull.{range}
 use Rattle.integers.proofs.Z.{z, predz}
 use Rattle.integers.proofs.Tests.{and-first, and-second, implies-in, implies-out, all-any, all-members}
 use Rattle.integers.proofs.Hull.{Within, values-in, values-out}

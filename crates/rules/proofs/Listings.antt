@@ -1,17 +1,17 @@
 -- The listing of a narrower list is the listing of the wider one, filtered: so the allowed plans of both are the same list, where no
 -- allowed plan is lost.
-use mathlib.Core.Path.{_≡_, refl, sym, ap, ap₂, _∙_, subst}
+use mathlib.Core.Path.{_≡_, refl, sym, ap, _∙_, subst}
 use Prim.Native.Nat.{ℕ, zero, suc, _+_}
-use mathlib.Core.List.{List, [], _∷_, _++_, map}
+use mathlib.Core.List.{List, [], _∷_, map}
 use mathlib.Core.Bool.{Bool, true, false}
 use lib.IntN.{ℤ, pos, negsuc, sucℤ, _+ℤ_, _-ℤ_}
 use lib.Signed.{leZ, ltZ, _≤ℤ_, _<ℤ_}
 use lib.ListN.{length}
-use Rattle.integers.specs.Tests.{if, and, filter}
+use Rattle.integers.specs.Tests.{and, filter}
 use Rattle.integers.specs.Hull.{Range, within, upFrom, countOf, values}
 use Rattle.integers.proofs.Z.{z, up, dn, +z, -z, sucz}
 use Rattle.integers.proofs.Tests.{by-cases, false-in, and-first, and-second, and-skip, and-follows, filter-append, filter-same, filter-none, filter-filter, filter-map}
-use Rattle.integers.proofs.Hull.{Within, within-is, within-in, count-out, Sub}
+use Rattle.integers.proofs.Hull.{within-is, within-in, count-out, Sub}
 use Rattle.plan.specs.declared.Task.{Task}
 use Rattle.plan.specs.declared.Resource.{Resource}
 use Rattle.plan.specs.declared.Sense.{Sense}

@@ -1,10 +1,10 @@
 -- A task of which something is left: no range and no set is empty. The entry checks say so of every task of a plan.
-use mathlib.Core.Path.{_≡_, refl, sym, ap, _∙_, subst}
-use Prim.Native.Nat.{ℕ, zero, suc, _+_, _^_, _≤_, _<_}
+use mathlib.Core.Path.{_≡_}
+use Prim.Native.Nat.{ℕ, _^_}
 use mathlib.Core.List.{List, [], _∷_, map}
-use mathlib.Core.Bool.{Bool, true, false, not}
-use lib.IntN.{ℤ, negℤ}
-use lib.Signed.{leZ, ltZ, _≤ℤ_}
+use mathlib.Core.Bool.{true, false, not}
+use lib.IntN.{ℤ}
+use lib.Signed.{leZ, _≤ℤ_}
 use lib.Dec.{eqb, ltb}
 use Rattle.integers.specs.Tests.{and}
 use Rattle.integers.proofs.Z.{z, ~z}
@@ -46,13 +46,13 @@ live-fits n t h g =
     let v = powersFit (t .height) in
     let b = leZ (t .height .low .0) (t .height .high .0) in
     let c = leZ (t .height .high .0) powerHigh in
-    let h₁ : and y (and w v) ≡ true = and-second x (and y (and w v)) h in
-    let h₂ : and w v ≡ true = and-second y (and w v) h₁ in
-    let e : b ≡ true = and-first b c (and-second (leZ powerLow (t .height .low .0)) (and b c) (and-second w v h₂)) in
+    let after-origin : and y (and w v) ≡ true = and-second x (and y (and w v)) h in
+    let after-duration : and w v ≡ true = and-second y (and w v) after-origin in
+    let e : b ≡ true = and-first b c (and-second (leZ powerLow (t .height .low .0)) (and b c) (and-second w v after-duration)) in
     record {
       origin = span-live dayLow dayHigh (t .origin) (and-first x (and y (and w v)) h);
-      duration = span-live durationLow durationHigh (t .duration) (and-first y (and w v) h₁);
-      end = span-live dayLow dayHigh (t .end) (and-first w v h₂);
+      duration = span-live durationLow durationHigh (t .duration) (and-first y (and w v) after-origin);
+      end = span-live dayLow dayHigh (t .end) (and-first w v after-duration);
       height = omega z;
       set = not-out (eqb (t .set) 0) (and-first (not (eqb (t .set) 0)) (ltb (t .set) (2 ^ n)) g);
     }

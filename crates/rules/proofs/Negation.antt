@@ -1,17 +1,15 @@
 -- "Sense at most is the same with every height and limit negated and each height's two ends swapped; it is proved once, over the
 -- negation": negating twice is nothing, balance, room and the entry checks don't see it, and so a step, a pass and settling at most
 -- are those at least of the negated plan, negated back, after as many passes.
-use mathlib.Core.Path.{_≡_, refl, sym, ap, ap₂, _∙_, subst}
-use Prim.Native.Nat.{ℕ, zero, suc, _+_, _-_}
+use mathlib.Core.Path.{_≡_, refl, sym, ap, ap₂, _∙_}
+use Prim.Native.Nat.{ℕ, zero, suc, _+_}
 use mathlib.Core.List.{List, [], _∷_, map}
-use mathlib.Core.Bool.{Bool, true, false, not}
+use mathlib.Core.Bool.{true}
 use lib.IntN.{ℤ, negℤ, _-ℤ_, natAbs}
-use lib.Signed.{leZ, ltZ}
-use lib.Dec.{eqb, ltb}
+use lib.Signed.{leZ}
 use lib.ListN.{length, length-map}
 use Rattle.integers.specs.Whole.{eqZ}
-use Rattle.integers.specs.Tests.{if, and, or, any}
-use Rattle.integers.specs.Hull.{Range, range}
+use Rattle.integers.specs.Tests.{and}
 use Rattle.integers.proofs.Z.{z, -z, ~z, leZ-in, eqZ-in, eqZ-is, negneg}
 use Rattle.integers.proofs.Tests.{by-cases, same-test, and-first, and-second, and-in}
 use Rattle.plan.specs.declared.Power.{Power}
@@ -20,9 +18,8 @@ use Rattle.plan.specs.declared.Task.{Task}
 use Rattle.plan.specs.declared.Resource.{Resource}
 use Rattle.plan.specs.declared.Narrowed.{Narrowed}
 use Rattle.plan.specs.declared.Narrowed.the-variants.{Kept, RanOut}
-use Rattle.plan.specs.declared.Sense.{Sense}
 use Rattle.plan.specs.declared.Sense.the-variants.{AtMost, AtLeast}
-use Rattle.plan.specs.Days.{daysOf, emptySpan}
+use Rattle.plan.specs.Days.{emptySpan}
 use Rattle.plan.specs.Powers.{power, powerLow, powerHigh, powersOf, powersFit, powerFits, turned}
 use Rattle.rules.specs.Allowed.{limitOn}
 use Rattle.rules.specs.Balance.{Outcome, andThen, each, cuts, unlessEmpty, balanced, balance}
@@ -30,7 +27,7 @@ use Rattle.rules.specs.Balance.Outcome.{NoPlan, Plan}
 use Rattle.rules.specs.Step.{negated, negatedPlan, atLeastStep, resourceStep}
 use Rattle.rules.specs.Settle.{then, stepsFrom, pass, sameRange, sameTask, sameTasks, Settled, onePassMore, unlessSame, settleWithin, settle, width, room, rooms}
 use Rattle.rules.specs.Settle.Settled.{Refused, After, Unsettled}
-use Rattle.rules.specs.Calls.{Checked, orElse, refuseIf, repeats, limits, rangesFit, setFits, tasksFit, check, mostTasks, mostResources}
+use Rattle.rules.specs.Calls.{repeats, limits, rangesFit, setFits, tasksFit, check}
 
 -- ---- the same plan, negated
 unfoldable pub negatedResource : Resource → Resource

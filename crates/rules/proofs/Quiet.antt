@@ -1,26 +1,25 @@
 -- A task that no rule touches on any day stays as it is: its set and ranges come out as they entered.
-use mathlib.Core.Path.{_≡_, refl, sym, ap, _∙_, subst}
-use Prim.Native.Nat.{ℕ, zero, suc, _+_, _^_}
-use mathlib.Core.List.{List, [], _∷_}
-use mathlib.Core.Bool.{Bool, true, false, not}
-use lib.IntN.{ℤ, pos, _+ℤ_, _-ℤ_}
-use lib.Signed.{leZ, ltZ, _≤ℤ_}
-use lib.Dec.{eqb}
-use Rattle.integers.specs.Tests.{if, and, implies, all, any}
-use Rattle.integers.specs.Hull.{Range, range, within, left}
+use mathlib.Core.Path.{_≡_}
+use Prim.Native.Nat.{ℕ}
+use mathlib.Core.List.{List}
+use mathlib.Core.Bool.{Bool, true, false}
+use lib.IntN.{ℤ, _-ℤ_}
+use lib.Signed.{_≤ℤ_}
+use Rattle.integers.specs.Tests.{and, implies, all}
+use Rattle.integers.specs.Hull.{Range, left}
 use Rattle.integers.specs.Hull.Left.{Some}
 use Rattle.integers.proofs.Z.{z, leZ-in}
-use Rattle.integers.proofs.Tests.{clash, by-cases, and-first, and-second, and-in, implies-in, all-in, any-none, false-in}
-use Rattle.integers.proofs.Hull.{Within, left-is}
+use Rattle.integers.proofs.Tests.{clash, and-first, and-second, and-in, implies-in, all-in, any-none, false-in}
+use Rattle.integers.proofs.Hull.{left-is}
 use Rattle.plan.specs.declared.Task.{Task}
-use Rattle.plan.specs.declared.Narrowed.{Narrowed}
-use Rattle.plan.specs.declared.Narrowed.the-variants.{Kept, RanOut}
+use Rattle.plan.specs.declared.Narrowed.the-variants.{Kept}
 use Rattle.plan.specs.Days.{daysOf}
 use Rattle.plan.specs.Powers.{powersOf}
-use Rattle.plan.specs.Sets.{has, only, without}
+use Rattle.plan.specs.Sets.{has, only}
 use Rattle.plan.proofs.Sets.{only-is, has-alone}
-use Rattle.rules.specs.Step.{possible, running, sure, others, counts, needed, barred, shut, keepsOrigin, keepsDuration, keepsEnd, keepsHeight, neededSet, keptSet, narrowed}
+use Rattle.rules.specs.Step.{possible, running, sure, others, needed, barred, shut, keepsOrigin, keepsDuration, keepsEnd, keepsHeight, neededSet, keptSet, narrowed}
 use Rattle.rules.proofs.Live.{Live}
+use Rattle.rules.proofs.Possible.{no-need, no-bar}
 
 -- a test that passes every value leaves the whole range
 pub left-all : (p : ℤ → Bool) (s : Range) → s .low ≤ℤ s .high → p (s .low) ≡ true → p (s .high) ≡ true → left p s ≡ Some s
@@ -100,16 +99,10 @@ module _ (r : ℕ) (limit : ℤ → ℤ) (ts : List Task) (t : Task) (away : has
   sure-away i = rw only-away
 
   pub quiet-away : (i : ℤ) → Quiet r limit ts t i
-  unfolding needed barred
   quiet-away i =
-      let rest = and (ltZ (pos 0) (t .height .high .0)) (ltZ (others r ts t i) (limit i)) in
       record {
-        need =
-            false-in (and (counts r ts i) (and (possible r i t) rest)) λ n.
-            clash (possible r i t) (and-first (possible r i t) rest (and-second (counts r ts i) (and (possible r i t) rest) n)) (possible-away i);
-        bar =
-            false-in (and (possible r i t) (ltZ (others r ts t i +ℤ t .height .high .0) (limit i))) λ b.
-            clash (possible r i t) (and-first (possible r i t) (ltZ (others r ts t i +ℤ t .height .high .0) (limit i)) b) (possible-away i);
+        need = no-need r i t limit ts (possible-away i);
+        bar = no-bar r i t limit ts (possible-away i);
         height = λ s. clash (sure r i t) s (sure-away i);
       }
 

@@ -1,18 +1,18 @@
 -- What could still be removed: it never grows, and a list with as much room as before is the same list. So a step that changes
 -- something takes room away.
-use mathlib.Core.Path.{_≡_, refl, sym, ap, ap₂, _∙_, subst}
-use Prim.Native.Nat.{ℕ, zero, suc, _+_, _-_, _^_, _≤_, _<_}
+use mathlib.Core.Path.{_≡_, refl, sym, ap, ap₂, subst}
+use Prim.Native.Nat.{ℕ, _^_, _≤_, _<_}
 use native.Mathlib.Omega.{arith}
 use mathlib.Core.List.{List, [], _∷_}
-use mathlib.Core.Bool.{Bool, true, false, not}
+use mathlib.Core.Bool.{true, false, not}
 use lib.IntN.{ℤ, pos, negsuc, _-ℤ_, natAbs}
-use lib.Signed.{leZ, ltZ, _≤ℤ_}
+use lib.Signed.{_≤ℤ_}
 use lib.Dec.{T, eqb, leb, leb→le, nleb→lt}
 use Rattle.integers.specs.Whole.{eqZ}
 use Rattle.integers.specs.Tests.{and}
 use Rattle.integers.specs.Hull.{Range}
-use Rattle.integers.proofs.Z.{z, up, dn, -z, eqZ-in, eqZ-is}
-use Rattle.integers.proofs.Tests.{clash, by-cases, false-in, and-first, and-second, and-in}
+use Rattle.integers.proofs.Z.{z, up, -z, eqZ-in, eqZ-is}
+use Rattle.integers.proofs.Tests.{clash, by-cases, false-in, and-first, and-second}
 use Rattle.integers.proofs.Hull as hull
 use Rattle.integers.proofs.Hull.{Sub, width-le, width-same}
 use Rattle.plan.specs.declared.Task.{Task}
@@ -20,13 +20,16 @@ use Rattle.plan.specs.declared.Resource.{Resource}
 use Rattle.plan.specs.declared.Sense.{Sense}
 use Rattle.plan.specs.Days.{daysOf, spanOf}
 use Rattle.plan.specs.Powers.{powersOf, powerSpanOf}
-use Rattle.plan.specs.Sets.{size}
 use Rattle.plan.proofs.Sets.{eqb-in, eqb-true, size-le, size-same, size-some, some-place, sub-le}
+use Rattle.rules.specs.Balance.{balance}
+use Rattle.rules.specs.Balance.Outcome.{Plan}
+use Rattle.rules.specs.Step.{resourceStep}
 use Rattle.rules.specs.Settle.{sameRange, sameTask, sameTasks, width, room, rooms}
 use Rattle.rules.proofs.Live.{Live, Lives}
 use Rattle.rules.proofs.Live.Lives.{no-lives, more-lives}
 use Rattle.rules.proofs.Subs.{SubTask, Subs}
 use Rattle.rules.proofs.Subs.Subs.{no-subs, more-subs}
+use Rattle.rules.proofs.Shrinks.{Shrunk, balance-shrunk, resource-step-shrunk}
 use Rattle.rules.proofs.Checks.{Smalls, check-live, check-small}
 use Rattle.rules.proofs.Checks.Smalls.{no-smalls, more-smalls}
 use Rattle.rules.specs.Calls.{check}
@@ -57,7 +60,7 @@ same-range-is a b h =
     ap₂ (λ (x y : ℤ). record { low = x; high = y }) (eqZ-is (a .low) (b .low) (and-first (eqZ (a .low) (b .low)) (eqZ (a .high) (b .high)) h))
     (eqZ-is (a .high) (b .high) (and-second (eqZ (a .low) (b .low)) (eqZ (a .high) (b .high)) h))
 
-same-task-is : (a b : Task) → sameTask a b ≡ true → a ≡ b
+pub same-task-is : (a b : Task) → sameTask a b ≡ true → a ≡ b
 unfolding sameTask
 same-task-is a b h =
     let s = eqb (a .set) (b .set) in
@@ -68,12 +71,12 @@ same-task-is a b h =
     let after-set : and o (and d (and e p)) ≡ true = and-second s (and o (and d (and e p))) h in
     let after-origin : and d (and e p) ≡ true = and-second o (and d (and e p)) after-set in
     let after-duration : and e p ≡ true = and-second d (and e p) after-origin in
-    let s₁ = eqb-true (a .set) (b .set) (and-first s (and o (and d (and e p))) h) in
-    let o₁ = same-range-is (daysOf (a .origin)) (daysOf (b .origin)) (and-first o (and d (and e p)) after-set) in
-    let d₁ = same-range-is (daysOf (a .duration)) (daysOf (b .duration)) (and-first d (and e p) after-origin) in
-    let e₁ = same-range-is (daysOf (a .end)) (daysOf (b .end)) (and-first e p after-duration) in
-    let p₁ = same-range-is (powersOf (a .height)) (powersOf (b .height)) (and-second e p after-duration) in
-    λ k. record { set = s₁ k; origin = spanOf (o₁ k); duration = spanOf (d₁ k); end = spanOf (e₁ k); height = powerSpanOf (p₁ k) }
+    let same-set = eqb-true (a .set) (b .set) (and-first s (and o (and d (and e p))) h) in
+    let same-origin = same-range-is (daysOf (a .origin)) (daysOf (b .origin)) (and-first o (and d (and e p)) after-set) in
+    let same-duration = same-range-is (daysOf (a .duration)) (daysOf (b .duration)) (and-first d (and e p) after-origin) in
+    let same-end = same-range-is (daysOf (a .end)) (daysOf (b .end)) (and-first e p after-duration) in
+    let same-height = same-range-is (powersOf (a .height)) (powersOf (b .height)) (and-second e p after-duration) in
+    λ k. record { set = same-set k; origin = spanOf (same-origin k); duration = spanOf (same-duration k); end = spanOf (same-end k); height = powerSpanOf (same-height k) }
 
 pub same-tasks-is : (ts us : List Task) → sameTasks ts us ≡ true → ts ≡ us
 unfolding sameTasks
@@ -127,12 +130,12 @@ room-same u t h l q g =
     let s = sub-le (u .set) (t .set) (h .set) in
     let k = some-place (u .set) (l .set) in
     let f = size-some 64 (u .set) (k .0) (omega arith) (k .1) in
-    let o₁ = range-same (daysOf (u .origin)) (daysOf (t .origin)) (h .origin) (l .origin) (omega arith) in
-    let d₁ = range-same (daysOf (u .duration)) (daysOf (t .duration)) (h .duration) (l .duration) (omega arith) in
-    let e₁ = range-same (daysOf (u .end)) (daysOf (t .end)) (h .end) (l .end) (omega arith) in
-    let h₁ = range-same (powersOf (u .height)) (powersOf (t .height)) (h .height) (l .height) (omega arith) in
-    let s₁ = size-same 64 (u .set) (t .set) (h .set) q (omega arith) in
-    λ k. record { set = s₁ k; origin = spanOf (o₁ k); duration = spanOf (d₁ k); end = spanOf (e₁ k); height = powerSpanOf (h₁ k) }
+    let same-origin = range-same (daysOf (u .origin)) (daysOf (t .origin)) (h .origin) (l .origin) (omega arith) in
+    let same-duration = range-same (daysOf (u .duration)) (daysOf (t .duration)) (h .duration) (l .duration) (omega arith) in
+    let same-end = range-same (daysOf (u .end)) (daysOf (t .end)) (h .end) (l .end) (omega arith) in
+    let same-height = range-same (powersOf (u .height)) (powersOf (t .height)) (h .height) (l .height) (omega arith) in
+    let same-set = size-same 64 (u .set) (t .set) (h .set) q (omega arith) in
+    λ k. record { set = same-set k; origin = spanOf (same-origin k); duration = spanOf (same-duration k); end = spanOf (same-end k); height = powerSpanOf (same-height k) }
 
 pub rooms-le : {us ts : List Task} → Subs us ts → Lives us → rooms us ≤ rooms ts
 unfolding rooms
@@ -162,17 +165,39 @@ pub less-changed : (us ts : List Task) → rooms us < rooms ts → sameTasks ts 
 less-changed us ts h =
     false-in (sameTasks ts us) (λ e. let q : rooms ts ≡ rooms us = ap rooms (same-tasks-is ts us e) in omega arith)
 
--- ---- so for every step and sequence of steps
+-- ---- what one step does to the room of a list of which nothing is empty, for a loop over the steps
+pub smalls-kept : (m : ℕ) {us ts : List Task} → Subs us ts → Smalls m ts → Smalls m us
+smalls-kept m no-subs no-smalls = no-smalls
+smalls-kept m (more-subs {u} {t} h f) (more-smalls q s) =
+    more-smalls {t = u} (let a = sub-le (u .set) (t .set) (h .set) in omega arith) (smalls-kept m f s)
+
+pub record Less (ts us : List Task) : Type 0 where
+  pub inside : Subs us ts
+  pub lives : Lives us
+  pub small : Smalls 64 us
+  pub never-more : rooms us ≤ rooms ts
+  pub less : sameTasks ts us ≡ false → rooms us < rooms ts
+
+shrunk-less : {ts us : List Task} → Smalls 64 ts → Shrunk ts (Plan us) → Less ts us
+shrunk-less s h =
+    record {
+      inside = h .0;
+      lives = h .1;
+      small = smalls-kept 64 (h .0) s;
+      never-more = rooms-le (h .0) (h .1);
+      less = rooms-less (h .0) (h .1) s;
+    }
+
+pub balance-less : (ts us : List Task) → Lives ts → Smalls 64 ts → balance ts ≡ Plan us → Less ts us
+balance-less ts us l s e = shrunk-less s (subst (Shrunk ts) e (balance-shrunk l))
+
+pub step-less : (sense : Sense) (r : ℕ) (limit : ℤ → ℤ) (ts us : List Task) → Smalls 64 ts → resourceStep sense r limit ts ≡ Plan us → Less ts us
+step-less sense r limit ts us s e = shrunk-less s (subst (Shrunk ts) e (resource-step-shrunk sense r limit ts))
+
+-- ---- so for every sequence of steps
 module _ (sense : Sense) (qs : List Resource) (ts us : List Task) (a : check qs ts ≡ Accepted) (h : Keeps sense qs ts us) where
   pub keeps-rooms : rooms us ≤ rooms ts
   keeps-rooms = rooms-le (h .inside) (check-live qs us (h .accepted))
 
   pub keeps-less : sameTasks ts us ≡ false → rooms us < rooms ts
   keeps-less e = rooms-less (h .inside) (check-live qs us (h .accepted)) (check-small qs ts a) e
-
-  -- a change is not undone by what follows
-  pub change-stays : (vs : List Task) → Keeps sense qs us vs → sameTasks ts us ≡ false → sameTasks ts vs ≡ false
-  change-stays vs g e =
-      let x = keeps-less e in
-      let y = rooms-le (g .inside) (check-live qs vs (g .accepted)) in
-      less-changed vs ts (omega arith)

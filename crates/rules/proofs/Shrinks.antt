@@ -1,16 +1,16 @@
 -- What a step leaves: each new set and range lies inside the old one, and none is empty.
-use mathlib.Core.Path.{_≡_, refl, sym, ap, _∙_, subst}
-use Prim.Native.Nat.{ℕ, zero, suc, _+_, _^_}
+use mathlib.Core.Path.{_≡_}
+use Prim.Native.Nat.{ℕ, suc, _^_}
 use mathlib.Core.List.{List, [], _∷_, map}
-use mathlib.Core.Bool.{Bool, true, false}
-use lib.IntN.{ℤ, pos, _+ℤ_, _-ℤ_, negℤ}
-use lib.Signed.{leZ, ltZ, _≤ℤ_}
+use mathlib.Core.Bool.{true, false}
+use lib.IntN.{ℤ, _+ℤ_, _-ℤ_, negℤ}
+use lib.Signed.{_≤ℤ_}
 use lib.Dec.{eqb}
-use Rattle.integers.specs.Tests.{if, and, any}
+use Rattle.integers.specs.Tests.{and, any}
 use Rattle.integers.specs.Hull.{Range, Left, left}
 use Rattle.integers.specs.Hull.Left.{Nothing, Some}
-use Rattle.integers.proofs.Z.{z, +z, -z, maxz, minz}
-use Rattle.integers.proofs.Tests.{if-case, and-first, and-second, any-out}
+use Rattle.integers.proofs.Z.{z, maxz, minz}
+use Rattle.integers.proofs.Tests.{if-case, any-out}
 use Rattle.integers.proofs.Hull.{Sub, LeftSub, left-sub, LeftFull, left-full}
 use Rattle.plan.specs.declared.Task.{Task}
 use Rattle.plan.specs.declared.Resource.{Resource}
@@ -20,17 +20,18 @@ use Rattle.plan.specs.declared.Narrowed.{Narrowed}
 use Rattle.plan.specs.declared.Narrowed.the-variants.{Kept, RanOut}
 use Rattle.plan.specs.declared.Sense.{Sense}
 use Rattle.plan.specs.declared.Sense.the-variants.{AtMost, AtLeast}
-use Rattle.plan.specs.Days.{daysOf, spanOf, cutBelow, cutAbove, cutTo, emptySpan}
-use Rattle.plan.specs.Powers.{powersOf, powerSpanOf}
+use Rattle.plan.specs.Days.{daysOf, cutBelow, cutAbove, cutTo, emptySpan}
+use Rattle.plan.specs.Powers.{powersOf}
 use Rattle.plan.specs.Sets.{has, without}
 use Rattle.plan.proofs.Sets.{SubSet, alone-only, without-has}
 use Rattle.rules.specs.Allowed.{limitOn}
 use Rattle.rules.specs.Balance.{Outcome, andThen, each, cuts, unlessEmpty, balanced, balance}
 use Rattle.rules.specs.Balance.Outcome.{NoPlan, Plan}
-use Rattle.rules.specs.Step.{orRanOut, possible, running, others, counts, shortfall, needed, barred, keepsOrigin, keepsDuration, keepsEnd, keepsHeight, neededSet, keptSet, narrowed, listedDays, atLeastStep, negated, negatedPlan, resourceStep}
+use Rattle.rules.specs.Step.{orRanOut, running, shortfall, needed, barred, keepsOrigin, keepsDuration, keepsEnd, keepsHeight, neededSet, keptSet, narrowed, listedDays, atLeastStep, negated, negatedPlan, resourceStep}
 use Rattle.rules.specs.Settle.{then, stepsFrom, pass}
 use Rattle.rules.proofs.Live.{Live, Lives, lives-negated}
 use Rattle.rules.proofs.Live.Lives.{no-lives, more-lives}
+use Rattle.rules.proofs.Possible.{possible-has, needed-possible}
 use Rattle.rules.proofs.Subs.{SubTask, Subs, subs-self, subs-trans, subs-back}
 use Rattle.rules.proofs.Subs.Subs.{no-subs, more-subs}
 
@@ -64,19 +65,11 @@ left-shrunk t v s Nothing k h g f = tt
 left-shrunk t v s (Some x) k h g f = f x h g
 
 module _ (r : ℕ) (limit : ℤ → ℤ) (ts : List Task) (days : List ℤ) where
-  needed-has : (t : Task) (i : ℤ) → needed r limit ts t i ≡ true → has (t .set) r ≡ true
-  unfolding needed possible
-  needed-has t i h =
-      let rest = and (ltZ (pos 0) (t .height .high .0)) (ltZ (others r ts t i) (limit i)) in
-      let when = and (leZ (t .origin .low .0) i) (ltZ i (t .end .high .0)) in
-      and-first (has (t .set) r) when
-      (and-first (and (has (t .set) r) when) rest (and-second (counts r ts i) (and (and (has (t .set) r) when) rest) h))
-
   needed-sub : (t : Task) → SubSet (neededSet r limit ts days t) (t .set)
   unfolding neededSet
   needed-sub t k =
       if-case (λ s. has s k ≡ true → has (t .set) k ≡ true) (any (needed r limit ts t) days) (2 ^ r) (t .set)
-      (λ n h. let e = any-out (needed r limit ts t) days n in rw (alone-only r k h) (needed-has t (e .0) (e .1)))
+      (λ n h. let e = any-out (needed r limit ts t) days n in rw (alone-only r k h) (possible-has r (e .0) t (needed-possible r (e .0) t limit ts (e .1))))
       (λ n h. h)
 
   pub kept-sub : (t : Task) → SubSet (keptSet r limit ts days t) (t .set)

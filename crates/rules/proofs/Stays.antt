@@ -1,13 +1,12 @@
 -- A choice stays inside what a step leaves: of one task, and of a list that is taken task by task.
-use mathlib.Core.Path.{_≡_, refl, sym, ap, _∙_}
+use mathlib.Core.Path.{_≡_, refl}
 use mathlib.Core.List.{List, [], _∷_}
-use lib.IntN.{_+ℤ_}
 use Rattle.plan.specs.declared.Task.{Task}
 use Rattle.plan.specs.declared.Narrowed.{Narrowed}
-use Rattle.plan.specs.declared.Narrowed.the-variants.{Kept, RanOut}
+use Rattle.plan.specs.declared.Narrowed.the-variants.{Kept}
 use Rattle.rules.specs.Allowed.{Choice}
-use Rattle.rules.specs.Balance.{Outcome, andThen, each}
-use Rattle.rules.specs.Balance.Outcome.{NoPlan, Plan}
+use Rattle.rules.specs.Balance.{Outcome, each}
+use Rattle.rules.specs.Balance.Outcome.{Plan}
 use Rattle.rules.proofs.Inside.{Inside, Fit, For}
 use Rattle.rules.proofs.Inside.Fit.{none, more}
 use Rattle.rules.proofs.Inside.For.{here, later}

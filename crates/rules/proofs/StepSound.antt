@@ -1,18 +1,17 @@
 -- No rule of the resource step, sense at least, loses an allowed choice: no shortfall where there is one, and each of its values
 -- passes every need, bar and height rule of every day.
-use mathlib.Core.Path.{_≡_, refl, sym, ap, _∙_, subst}
-use Prim.Native.Nat.{ℕ, zero, suc, _+_, _-_, _^_}
-use mathlib.Core.List.{List, [], _∷_}
-use mathlib.Core.Bool.{Bool, true, false, not}
+use mathlib.Core.Path.{_≡_, subst}
+use Prim.Native.Nat.{ℕ, _^_}
+use mathlib.Core.List.{List}
+use mathlib.Core.Bool.{true}
 use lib.IntN.{ℤ, pos, _+ℤ_, _-ℤ_}
 use lib.Signed.{leZ, ltZ, _≤ℤ_, _<ℤ_}
-use lib.Dec.{eqb}
 use Rattle.integers.specs.Whole.{larger}
-use Rattle.integers.specs.Tests.{if, and, implies, all, any}
-use Rattle.integers.specs.Hull.{Range, range, within, Left, left}
+use Rattle.integers.specs.Tests.{if, and, any}
+use Rattle.integers.specs.Hull.{range, within}
 use Rattle.integers.proofs.Z.{z, +z, -z, maxz, leZ-in}
-use Rattle.integers.proofs.Tests.{clash, by-cases, if-case, and-first, and-second, and-in, implies-in, not-in, all-in, any-out, any-none}
-use Rattle.integers.proofs.Hull.{Within, within-is, within-in, Kept, left-in}
+use Rattle.integers.proofs.Tests.{by-cases, if-case, and-first, and-second, and-in, implies-in, not-in, all-in, any-out, any-none}
+use Rattle.integers.proofs.Hull.{within-is, within-in, left-in}
 use Rattle.plan.specs.declared.Task.{Task}
 use Rattle.plan.specs.declared.Sense.the-variants.{AtLeast}
 use Rattle.plan.specs.Days.{daysOf, spanOf}
@@ -20,7 +19,6 @@ use Rattle.plan.specs.Powers.{powersOf, powerSpanOf}
 use Rattle.plan.specs.Sets.{has, only, without}
 use Rattle.plan.proofs.Sets.{has-alone, has-not-zero, without-keeps}
 use Rattle.rules.specs.Allowed.{Choice, covers, adds, level, meets}
-use Rattle.rules.specs.Balance.{Outcome, each}
 use Rattle.rules.specs.Step.{possible, running, sure, total, others, counts, shortfall, needed, barred, shut, keepsOrigin, keepsDuration, keepsEnd, keepsHeight, neededSet, keptSet, narrowed, listedDays, atLeastStep}
 use Rattle.rules.proofs.Inside.{Inside, Covers, Fit, For, covers-is, covers-in, for-inside, for-joined}
 use Rattle.rules.proofs.Limits.{Holds}

@@ -1,10 +1,7 @@
 -- A task, or a list of tasks, whose sets and ranges lie inside another's.
-use mathlib.Core.Path.{_≡_, refl, sym, ap, _∙_}
-use Prim.Native.Nat.{ℕ, zero, suc, _+_, _≤_}
+use mathlib.Core.Path.{_≡_, refl, ap}
+use Prim.Native.Nat.{suc}
 use mathlib.Core.List.{List, [], _∷_, map}
-use mathlib.Core.Bool.{Bool, true, false}
-use lib.IntN.{ℤ, negℤ}
-use lib.Signed.{_≤ℤ_}
 use lib.ListN.{length}
 use Rattle.integers.specs.Hull.{Range}
 use Rattle.integers.proofs.Z.{z, ~z}
@@ -12,7 +9,6 @@ use Rattle.integers.proofs.Hull.{Sub}
 use Rattle.plan.specs.declared.Task.{Task}
 use Rattle.plan.specs.Days.{daysOf}
 use Rattle.plan.specs.Powers.{powersOf, turned}
-use Rattle.plan.specs.Sets.{has}
 use Rattle.plan.proofs.Sets.{SubSet}
 use Rattle.rules.specs.Step.{negated}
 

@@ -1,7 +1,6 @@
 -- A plan that leaves one choice: every range has one value and every set one resource.
-use Prim.Native.Nat.{ℕ, _^_}
+use Prim.Native.Nat.{_^_}
 use mathlib.Core.Bool.{Bool}
-use lib.IntN.{ℤ}
 use lib.Dec.{eqb}
 use Rattle.integers.specs.Whole.{eqZ}
 use Rattle.integers.specs.Tests.{and}

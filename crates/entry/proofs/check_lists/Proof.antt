@@ -1,8 +1,5 @@
 -- Refusals 1 and 2 by the counts, the others by the rows, which are then the whole lists.
 use native.Mathlib.Omega.{arith}
-use mathlib.Core.Path.{_≡_}
-use mathlib.Core.Bool.{true, false}
-use lib.Dec.{eqb, ltb}
 use lib.ListN.{length}
 use borrow.Author.Tests.{lt-ltb, le-ltb, eq-eqb, ne-eqb}
 use Rattle.rules.specs.Calls.{check}
@@ -19,12 +16,12 @@ returns-2 : tie.Need-returns-2
 unfolding check
 returns-2 c = λ qs ts a b f g. rw (le-ltb 256 (length ts) (omega arith), eq-eqb (length qs) 0 (omega arith))
 
+check-contents-requires : tie.Need-check-contents-requires
+check-contents-requires c κs = search needs
+
 returns-3 : tie.Need-returns-3
 unfolding check
 returns-3 c = λ qs ts a b f g. rw (le-ltb 256 (length ts) (omega arith), ne-eqb (length qs) 0 (λ e. omega arith), lt-ltb 16 (length qs) (omega arith))
-
-check-contents-requires : tie.Need-check-contents-requires
-check-contents-requires c κs = search needs
 
 returns-4 : tie.Need-returns-4
 unfolding check contents
@@ -35,4 +32,4 @@ returns-4 c =
 
 pub check-lists-spec : {M : Type 1} → statement M
 check-lists-spec =
-    tie.close (tie.spec returns returns-2 returns-3 check-contents-requires returns-4)
+    tie.close (tie.spec returns returns-2 check-contents-requires returns-3 returns-4)

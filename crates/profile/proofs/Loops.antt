@@ -1,0 +1,114 @@
+-- What one turn of each loop keeps: what has been written, joined to what the rest will write, is the answer.
+use mathlib.Core.Path.{_≡_, refl, sym, ap, _∙_}
+use mathlib.Core.Bool.{Bool, true, false}
+use mathlib.Core.List.{List, [], _∷_, _++_, append-nil}
+use Prim.Native.Nat.{ℕ, suc, _+_, _*_, _≤_, _<_}
+use native.Mathlib.Numerals.{add-one}
+use native.Mathlib.Omega.{arith}
+use lib.IntN.{ℤ, pos, _+ℤ_}
+use lib.ListN.{length, take, drop, getD, length-append, drop-of-length-le}
+use lib.Seq.{drop-cons, length-take-le}
+use lib.Signed.{_≤ℤ_}
+use mir.Syntax.{w64}
+use mir.Val.{SFits}
+use Rattle.integers.specs.Tests.{if}
+use Rattle.integers.proofs.Z.{z, +z}
+use Rattle.integers.proofs.Tests.{if-case}
+use Rattle.integers.proofs.Sums.{Near}
+use Rattle.plan.specs.declared.Task.{Task}
+use Rattle.plan.specs.Powers.{powerLow, powerHigh}
+use Rattle.plan.specs.Sets.{has}
+use Rattle.stretches.specs.declared.Stretch.{Stretch}
+use Rattle.profile.specs.declared.Common.{Common}
+use Rattle.profile.specs.declared.Level.{Level}
+use Rattle.profile.specs.Keys.{dayOf, powerOf, sureOf}
+use Rattle.profile.specs.Laid.{Laid}
+use Rattle.profile.specs.Events.{changeKeys, hopeful, surely, fixed, taskKeys, eventsOf, joined, keysOf, common}
+use Rattle.profile.specs.Sweep.{changed, stretchIn, worth, worthy, swept}
+use Rattle.profile.proofs.Keys.{power-near, sure-near}
+use Rattle.profile.proofs.Laid.{laid-all, laid-more}
+
+-- ---- events
+abbrev few : List ℕ → Type 0
+few l = length l ≤ 4
+
+pub events-few : (r : ℕ) (t : Task) → length (eventsOf r t) ≤ 4
+unfolding eventsOf taskKeys changeKeys
+events-few r t =
+    if-case few (has (t .set) r) _ _
+    (λ _.
+      if-case few (hopeful t) _ _
+      (λ _. if-case few (surely r t) _ _ (λ _. if-case few (fixed t) _ _ (λ _. omega arith) (λ _. omega arith)) (λ _. omega arith))
+      (λ _. if-case few (surely r t) _ _ (λ _. omega arith) (λ _. omega arith)))
+    (λ _. omega arith)
+
+module _ (r : ℕ) (d : Task) (ts : List Task) (i : ℕ) (h : i < length ts) where
+  -- the keys of task i behind those before it
+  pub keys-more : (k l : List ℕ) (n m : ℕ) → Laid k l n m (eventsOf r (getD ts i d)) → take m l ++ keysOf r (drop (i + 1) ts) ≡ take n k ++ keysOf r (drop i ts)
+  unfolding keysOf
+  keys-more k l n m p = laid-more k l n m (eventsOf r (getD ts i d)) (keysOf r (drop (i + 1) ts)) p ∙ rw (add-one, drop-cons ts i d h)
+
+  pub common-more : (c : Common) → common r (joined r c (getD ts i d)) (drop (i + 1) ts) ≡ common r c (drop i ts)
+  unfolding common
+  common-more c = rw (add-one, drop-cons ts i d h)
+
+pub keys-end : (r : ℕ) (ts : List Task) (i : ℕ) → length ts ≤ i → keysOf r (drop i ts) ≡ []
+unfolding keysOf
+keys-end r ts i h = rw (drop-of-length-le ts h)
+
+pub common-end : (r : ℕ) (c : Common) (ts : List Task) (i : ℕ) → length ts ≤ i → common r c (drop i ts) ≡ c
+unfolding common
+common-end r c ts i h = rw (drop-of-length-le ts h)
+
+-- ---- stretches
+pub worthy-few : (c : Common) (t : Stretch) → length (worthy c t) ≤ 1
+worthy-few c t = if-case (λ l. length l ≤ 1) (worth c t) (t ∷ []) [] (λ _. omega arith) (λ _. omega arith)
+
+module _ (c : Common) (ks : List ℕ) (j : ℕ) where
+  -- the stretch up to key j behind those before it
+  pub swept-more : j < length ks → (k l : List Stretch) (n m : ℕ) (a : ℤ) (v : Level) →
+      Laid k l n m (worthy c (stretchIn a (dayOf (getD ks j 0)) v)) →
+      take m l ++ swept c (dayOf (getD ks j 0)) (changed v (getD ks j 0)) (drop (j + 1) ks) ≡ take n k ++ swept c a v (drop j ks)
+  unfolding swept
+  swept-more h k l n m a v p =
+      laid-more k l n m (worthy c (stretchIn a (dayOf (getD ks j 0)) v)) (swept c (dayOf (getD ks j 0)) (changed v (getD ks j 0)) (drop (j + 1) ks)) p
+      ∙ rw (add-one, drop-cons ks j 0 h)
+
+  pub swept-end : length ks ≤ j → (k l : List Stretch) (n m : ℕ) (a : ℤ) (v : Level) →
+      Laid k l n m (worthy c (stretchIn a (c .high .0) v)) →
+      take m l ≡ take n k ++ swept c a v (drop j ks)
+  unfolding swept
+  swept-end h k l n m a v p = p .front ∙ rw (drop-of-length-le ks h)
+
+-- ---- the sums stay small
+pub record Small (j : ℕ) (v : Level) : Type 0 where
+  pub slack : Near (1000000 + j * 2097152) (v .slack .0)
+  pub sure : Near (j * 2) (v .sure .0)
+
+pub small-start : (v : Level) → powerLow ≤ℤ v .slack .0 → v .slack .0 ≤ℤ powerHigh → v .sure .0 ≡ pos 0 → Small 0 v
+small-start v a b e =
+    record {
+      slack = record { over = omega z; under = omega z };
+      sure = record { over = omega z; under = omega z };
+    }
+
+module _ (j : ℕ) (v : Level) (k : ℕ) (s : Small j v) where
+  pub small-fits : j < 1024 → SFits w64 (v .slack .0 +ℤ powerOf k) × SFits w64 (v .sure .0 +ℤ sureOf k)
+  small-fits h =
+      let p = power-near k in
+      let q = sure-near k in
+      let a = s .slack in
+      let b = s .sure in
+      (omega (z, +z (v .slack .0) (powerOf k)), omega (z, +z (v .sure .0) (sureOf k)))
+
+  pub small-more : Small (j + 1) (changed v k)
+  unfolding changed
+  small-more =
+      let p = power-near k in
+      let q = sure-near k in
+      let a = s .slack in
+      let b = s .sure in
+      record {
+        slack = record { over = omega (z, +z (v .slack .0) (powerOf k)); under = omega (z, +z (v .slack .0) (powerOf k)) };
+        sure = record { over = omega (z, +z (v .sure .0) (sureOf k)); under = omega (z, +z (v .sure .0) (sureOf k)) };
+      }

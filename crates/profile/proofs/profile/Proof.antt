@@ -1,0 +1,76 @@
+-- `profile::profile`: events, stretches and shortfall, joined by one law.
+use native.Mathlib.Omega.{arith}
+use mathlib.Core.Path.{_≡_, refl, sym, ap, _∙_}
+use lib.ListN.{length, take, getD}
+use Rattle.integers.proofs.Z.{z, ~z}
+use Rattle.rows.specs.View.{tasksOf}
+use Rattle.rows.proofs.View.{length-tasks}
+use Rattle.stretches.specs.View.{stretchesOf}
+use Rattle.stretches.proofs.View.{length-stretches}
+use Rattle.profile.proofs.Promise.{profiled}
+use borrow.Author.Needs.{needs}
+use Rattle.profile.proofs.profile.Statement.{statement}
+use Rattle.profile.proofs.profile.Tie as tie
+
+collect-requires : tie.Need-collect-requires
+collect-requires c κs = search needs
+
+negated-requires : tie.Need-negated-requires
+negated-requires c κs =
+    let a = c .before .before .before .before .before .before .before .before .before in
+    omega (z, ~z (a .args .limit .0), a .pre .0 .least, a .pre .0 .most)
+
+sweep-events-requires : tie.Need-sweep-events-requires
+sweep-events-requires c κs =
+    let q = c .before .before .before .before .before .before .before .collect in
+    let a = c .before .before .before .before .before .before .before .before .before .before .before in
+    let l = a .pre .0 in
+    let e = q .ensures .1 .1 in
+    let x = a .args .limit .0 in
+    (
+      (omega (arith, e, q .kept .1 .1 .0, l), e, omega (arith, e, l), omega (arith, e, l)),
+      rw (c .before .negated .ensures) (omega (z, ~z x, l .least, l .most), omega (z, ~z x, l .least, l .most)),
+    )
+
+first-short-requires : tie.Need-first-short-requires
+first-short-requires c κs =
+    let w = c .before .before .before .before .before .before .sweep-events in
+    omega (arith, w .ensures .few, length-stretches (w .last .1 .1 .1 .1 .1 .0))
+
+same-length : tie.Need-same-length
+same-length c = search needs
+
+same-length-2 : tie.Need-same-length-2
+same-length-2 c = search needs
+
+same-length-3 : tie.Need-same-length-3
+same-length-3 c = search needs
+
+returns : tie.Need-returns
+returns c =
+    let w = c .before .before .before .before .before .before .before .sweep-events in
+    let g = c .before .before .before .before .before .before .before .before .before .negated in
+    let q = c .before .before .before .before .before .before .before .before .before .before .before .before .before .before .before .collect in
+    let a = c .before .before .before .before .before .before .before .before .before .before .before .before .before .before .before .before .before .before .before in
+    let l = a .pre .0 in
+    let x = a .args .limit .0 in
+    let ts = tasksOf (a .args .s .now) in
+    let ss = stretchesOf (w .last .1 .1 .1 .1 .1 .0) in
+    (
+      omega (arith, w .ensures .few, length-stretches (w .last .1 .1 .1 .1 .1 .0)),
+      profiled (a .args .r) x ts _ (q .result .common) ss (w .result) (c .first-short .result) (a .pre .1) (omega (arith, l .tasks-few, length-tasks (a .args .s .now))) (l .least) (l .most)
+      (q .ensures .0 .front) (q .ensures .1 .0) (rw (g .ensures) at (w .ensures)) (c .first-short .ensures),
+    )
+
+pub profile-spec : {M : Type 1} → statement M
+profile-spec =
+    tie.close
+    (tie.spec
+    collect-requires
+    negated-requires
+    sweep-events-requires
+    first-short-requires
+    same-length
+    same-length-2
+    same-length-3
+    returns)

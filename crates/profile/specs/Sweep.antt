@@ -1,0 +1,51 @@
+-- The sweep over rising keys: a stretch up to each key's day, with what the keys before it add up to; those that no rule could touch left out.
+use mathlib.Core.Bool.{Bool}
+use mathlib.Core.List.{List, [], _∷_, _++_}
+use mathlib.Core.Path.{_≡_}
+use Prim.Native.Nat.{ℕ, _≤_}
+use lib.ListN.{length, take}
+use lib.IntN.{ℤ, pos, _+ℤ_}
+use lib.Signed.{ltZ}
+use Rattle.integers.specs.Tests.{if, and, or}
+use Rattle.plan.specs.Days.{day}
+use Rattle.plan.specs.Powers.{power}
+use Rattle.sorting.specs.Order.{Sorted}
+use Rattle.stretches.specs.declared.Stretch.{Stretch}
+use Rattle.stretches.specs.Tells.{big}
+use Rattle.profile.specs.declared.Common.{Common}
+use Rattle.profile.specs.declared.Level.{Level}
+use Rattle.profile.specs.Events.{count}
+use Rattle.profile.specs.Keys.{dayOf, powerOf, sureOf}
+
+abbrev pub level : ℤ → ℤ → Level
+level x u = record { slack = power x; sure = count u }
+
+-- a key more
+unfoldable pub changed : Level → ℕ → Level
+changed v k = level (v .slack .0 +ℤ powerOf k) (v .sure .0 +ℤ sureOf k)
+
+-- the slack where a task is sure, else more than any slack
+unfoldable pub tightIn : Level → ℤ
+tightIn v = if (ltZ (pos 0) (v .sure .0)) (v .slack .0) big
+
+unfoldable pub stretchIn : ℤ → ℤ → Level → Stretch
+stretchIn a b v = record { from = day a; to = day b; slack = v .slack; tight = power (tightIn v) }
+
+-- it has a day, and some rule may touch some task on it
+unfoldable pub worth : Common → Stretch → Bool
+worth c t = and (ltZ (t .from .0) (t .to .0)) (or (ltZ (t .slack .0) (c .bar .0)) (ltZ (t .tight .0) (c .lift .0)))
+
+abbrev pub worthy : Common → Stretch → List Stretch
+worthy c t = if (worth c t) (t ∷ []) []
+
+-- from a day on, with what has been added up by then
+unfoldable pub swept : Common → ℤ → Level → List ℕ → List Stretch
+swept c a v [] = worthy c (stretchIn a (c .high .0) v)
+swept c a v (k ∷ ks) = worthy c (stretchIn a (dayOf k) v) ++ swept c (dayOf k) (changed v k) ks
+
+-- the first n rows hold what the keys, once they are in rising order, make
+pub record Sweeps (c : Common) (start : ℤ) (ks : List ℕ) (ss : List Stretch) (n : ℕ) : Type 0 where
+  pub keys : List ℕ
+  pub sorted : Sorted ks keys
+  pub few : n ≤ length ss
+  pub are : take n ss ≡ swept c (c .low .0) (level start (pos 0)) keys
