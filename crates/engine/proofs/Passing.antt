@@ -26,7 +26,7 @@ use Rattle.rules.proofs.Passes.{steps-play}
 use Rattle.rules.specs.Moves.Move.{StepOf}
 use Rattle.rules.specs.Listing.{places}
 use Rattle.rules.proofs.Subs.{subs-self, subs-trans}
-use Rattle.rules.proofs.Rooms.{change-stays}
+use Rattle.rules.proofs.Rooms.{keeps-rooms, keeps-less, less-changed}
 use Rattle.integers.proofs.Tests.{by-cases}
 use Rattle.rows.specs.View.{noResource}
 use Rattle.rows.specs.Changes.{outcomeOf}
@@ -78,7 +78,10 @@ module _ (qs : List Resource) (ts : List Task) (a : check qs ts ≡ Accepted) wh
   change-in-all us vs k g =
       by-cases (sameTasks ts us)
       (λ s. rw s (ap (λ (x : List Task). not (sameTasks x vs)) (sym (same-tasks-is ts us s))))
-      (λ s. rw s (sym (ap not (change-stays AtLeast qs ts us a k vs g s))))
+      (λ s.
+        let x = keeps-less AtLeast qs ts us a k s in
+        let y = keeps-rooms AtLeast qs us vs (k .accepted) g in
+        rw s (sym (ap not (less-changed vs ts (omega arith)))))
 
   -- what two steps in a row note
   pub noted-more : (us vs : List Task) → Keeps AtLeast qs ts us → Keeps AtLeast qs us vs → (before between after : Bool) (m n : ℕ) → Noted qs ts us before between m → Noted qs us vs between after n → Noted qs ts vs before after n

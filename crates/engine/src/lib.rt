@@ -11,30 +11,23 @@ ghost use Rattle.plan.specs.Powers.{powerFits};
 ghost use Rattle.plan.specs.declared.Sense.the-variants.{AtLeast};
 ghost use Rattle.rules.specs.Allowed.{limitOn};
 ghost use Rattle.rules.specs.Balance.{balance};
-ghost use Rattle.rules.specs.Step.{atLeastStep};
+ghost use Rattle.rules.specs.Step.{negated, atLeastStep};
 ghost use Rattle.rules.specs.Settle.{sameTasks, stepsFrom, pass, settle};
-ghost use Rattle.rules.specs.Calls.{check};
+ghost use Rattle.rules.specs.Calls.{check, checkCall, balanceCall, stepCall, passCall, settleCall};
 ghost use Rattle.rules.specs.Calls.Checked.{Accepted};
 ghost use Rattle.rows.specs.View.{tasksOf, resourcesOf, noResource};
 ghost use Rattle.rows.specs.Changes.{outcomeOf, touchedBy};
-ghost use Rattle.rows.specs.Fits.{AllBounded, AllFit};
-ghost use Rattle.engine.specs.Facing.{facing, resourcesFacing, tasksFacing};
+ghost use Rattle.rows.specs.Fits.{Bounded, AllBounded, AllFit};
+ghost use Rattle.engine.specs.Facing.{facing, turned, resourcesFacing, tasksFacing};
 ghost use Rattle.engine.specs.Mask.{Idle, Noted, Roomy};
-ghost use Rattle.engine.specs.Answers.{settledOf};
+ghost use Rattle.engine.specs.Answers.{settledOf, resultOf};
+use entry::Entry;
+use plan::Answer;
 use plan::Power;
+use plan::Refusal;
 use plan::Sense;
+use plan::Task;
 use rows::Stepped;
-
-pub fn balance_rows(s: &mut [[i64; 9]]) -> Stepped
-    requires { ⌜ AllBounded (tasksOf (now s)) ⌝ }
-    ensures outcome { λ o. ⌜ outcomeOf (o .ok) (tasksOf (now (s .exit))) ≡ balance (tasksOf (now (s .entry))) ⌝ }
-    ensures touched { λ o. ⌜ (o .ok ≡ true → o .touched ≡ touchedBy (tasksOf (now (s .entry))) (tasksOf (now (s .exit)))) ⌝ }
-{
-    Stepped {
-        ok: true,
-        touched: 0,
-    }
-}
 
 pub fn step(
     s: &mut [[i64; 9]],
@@ -163,7 +156,7 @@ pub fn pass_rows(
     ensures outcome { λ o. ⌜ outcomeOf (o .ok) (tasksOf (now (s .exit))) ≡ pass AtLeast (resourcesFacing sense (resourcesOf (now (q .entry)))) (tasksOf (now (s .entry))) ⌝ }
     ensures noted { λ o. ⌜ (o .ok ≡ true → Noted (resourcesFacing sense (resourcesOf (now (q .entry)))) (tasksOf (now (s .entry))) (tasksOf (now (s .exit))) false (o .changed) (o .mask)) ⌝ }
 {
-    let b = balance_rows(s);
+    let b = balance::balance(s);
     let first = Passed {
         ok: b.ok,
         changed: some_touched(false, b.touched),
@@ -200,5 +193,104 @@ pub fn settle_rows(
             return Settling::After(passes);
         }
         mask = p.mask;
+    }
+}
+
+// ---- a plan at most, turned
+
+fn negated_task(t: Task) -> Task
+    requires { ⌜ Bounded t ⌝ }
+    ensures { λ r. ⌜ r ≡ negated t ⌝ }
+{
+    let o = t.origin;
+    let d = t.duration;
+    let e = t.end;
+    let h = t.height;
+    Task {
+        set: t.set,
+        origin: o,
+        duration: d,
+        end: e,
+        height: h.turned(),
+    }
+}
+
+fn negate_rows(s: &mut [[i64; 9]])
+    requires { ⌜ AllBounded (tasksOf (now s)) ⌝ }
+    ensures { λ _. ⌜ tasksOf (now (s .exit)) ≡ map negated (tasksOf (now (s .entry))) ⌝ }
+{
+    let mut i: usize = 0;
+    while i < s.len() {
+        let t = rows::task_at(s, i);
+        rows::put_task(s, i, negated_task(t));
+        i += 1;
+    }
+}
+
+// The tasks as they face the steps, and back.
+fn turn_rows(sense: Sense, s: &mut [[i64; 9]])
+    requires { ⌜ AllBounded (tasksOf (now s)) ⌝ }
+    ensures { λ _. ⌜ tasksOf (now (s .exit)) ≡ tasksFacing sense (tasksOf (now (s .entry))) ⌝ }
+{
+    match sense {
+        Sense::AtLeast => {}
+        Sense::AtMost => {
+            negate_rows(s);
+        }
+    }
+}
+
+// ---- the calls: each checks its own input
+
+pub fn check_call(q: &[[i64; 2]], s: &[[i64; 9]]) -> Answer
+    ensures { λ r. ⌜ resultOf r (tasksOf (now (s .entry))) (tasksOf (now (s .entry))) ≡ checkCall (resourcesOf (now (q .entry))) (tasksOf (now (s .entry))) ⌝ }
+{
+    match entry::check(q, s) {
+        Entry::Refused(f) => Answer::Refused(f),
+        Entry::Accepted => Answer::Done(0),
+    }
+}
+
+pub fn balance_call(q: &[[i64; 2]], s: &mut [[i64; 9]]) -> Answer
+    ensures { λ r. ⌜ resultOf r (tasksOf (now (s .entry))) (tasksOf (now (s .exit))) ≡ balanceCall (resourcesOf (now (q .entry))) (tasksOf (now (s .entry))) ⌝ }
+{
+    match entry::check(q, s) {
+        Entry::Refused(f) => Answer::Refused(f),
+        Entry::Accepted => {
+            let o = balance::balance(s);
+            if o.ok {
+                Answer::Done(0)
+            } else {
+                Answer::Refused(Refusal::NoPlan)
+            }
+        }
+    }
+}
+
+// Settling in what is lent.
+fn settle_in(
+    sense: Sense,
+    q: &[[i64; 2]],
+    s: &mut [[i64; 9]],
+    keys: &mut [u64],
+    spare: &mut [u64],
+    ss: &mut [[i64; 4]],
+) -> Answer
+    requires { ⌜ Roomy (length (now keys)) (length (now spare)) (length (now ss)) ⌝ }
+    ensures { λ r. ⌜ resultOf r (tasksOf (now (s .entry))) (tasksOf (now (s .exit))) ≡ settleCall sense (resourcesOf (now (q .entry))) (tasksOf (now (s .entry))) ⌝ }
+{
+    match entry::check(q, s) {
+        Entry::Refused(f) => {
+            return Answer::Refused(f);
+        }
+        Entry::Accepted => {}
+    }
+    turn_rows(sense, s);
+    match settle_rows(sense, q, s, keys, spare, ss) {
+        Settling::NoPlan => Answer::Refused(Refusal::NoPlan),
+        Settling::After(n) => {
+            turn_rows(sense, s);
+            Answer::Done(n)
+        }
     }
 }

@@ -39,26 +39,26 @@ is-true true h = refl
 is-true false h = sym h
 
 -- what balance left, where it left a plan
-module _ (c : tie.After-balance-rows) (ok : c .balance-rows .result .ok ≡ true) where
+module _ (c : tie.After-balance) (ok : c .balance .result .ok ≡ true) where
   abbrev start : tie.Start
   start = c .before .before .before .before
 
   abbrev us : List Task
-  us = tasksOf (c .balance-rows .last .0)
+  us = tasksOf (c .balance .last .0)
 
   plan : balance (ts start) ≡ Plan us
-  plan = sym (c .balance-rows .ensures .0) ∙ ap (λ (x : Bool). outcomeOf x us) ok
+  plan = sym (c .balance .ensures .0) ∙ ap (λ (x : Bool). outcomeOf x us) ok
 
   keeps : Keeps AtLeast (qs start) (ts start) us
   keeps = balance-keeps (qs start) (ts start) us (start .pre .0) plan
 
-  noted : Noted (qs start) (ts start) us false (or false (not (eqb (c .balance-rows .result .touched) 0))) (union (start .args .mask) (c .balance-rows .result .touched))
+  noted : Noted (qs start) (ts start) us false (or false (not (eqb (c .balance .result .touched) 0))) (union (start .args .mask) (c .balance .result .touched))
   noted =
-      subst (λ (x : ℕ). Noted (qs start) (ts start) us false (or false (not (eqb x 0))) (union (start .args .mask) x)) (sym (c .balance-rows .ensures .1 ok))
+      subst (λ (x : ℕ). Noted (qs start) (ts start) us false (or false (not (eqb x 0))) (union (start .args .mask) x)) (sym (c .balance .ensures .1 ok))
       (balance-noted (qs start) (ts start) us (start .pre .0) keeps (start .args .mask) false (start .pre .1 .0))
 
-balance-rows-requires : tie.Need-balance-rows-requires
-balance-rows-requires c κs =
+balance-requires : tie.Need-balance-requires
+balance-requires c κs =
     let b = c .before .before .before in
     λ k l. accepts (qs b) (ts b) (b .pre .0) .tasks noTask k l .ranges
 
@@ -75,10 +75,10 @@ returns : tie.Need-returns
 returns c =
     let d = c .before .before .before .before .before in
     let b = c .before .before .before .before .before .before .before .before .before in
-    let no = not-true (d .balance-rows .result .ok) (c .if1 .taken) in
+    let no = not-true (d .balance .result .ok) (c .if1 .taken) in
     (
-      pass-none (qs b) (ts b) (b .pre .0) (d .balance-rows .result .ok) (tasksOf (d .balance-rows .last .0)) (d .balance-rows .ensures .0) no,
-      λ h. clash (d .balance-rows .result .ok) h no,
+      pass-none (qs b) (ts b) (b .pre .0) (d .balance .result .ok) (tasksOf (d .balance .last .0)) (d .balance .ensures .0) no,
+      λ h. clash (d .balance .result .ok) h no,
     )
 
 -- src/lib.rt:175:5
@@ -87,7 +87,7 @@ unfolding union
 steps-rows-requires c κs =
     let d = c .before .before .before .before .before .before .before .before .before in
     let b = c .before .before .before .before .before .before .before .before .before .before .before .before .before in
-    let ok = is-true (d .balance-rows .result .ok) (c .before .before .before .before .if1 .left) in
+    let ok = is-true (d .balance .result .ok) (c .before .before .before .before .if1 .left) in
     ((ok, keeps d ok .accepted), (noted d ok .idle, b .pre .1 .1))
 
 -- src/lib.rt:151:1
@@ -113,15 +113,15 @@ returns-2 c =
     let e = c .before .before .before .before .before .before in
     let d = c .before .before .before .before .before .before .before .before .before .before .before .before .before .before .before .before in
     let b = c .before .before .before .before .before .before .before .before .before .before .before .before .before .before .before .before .before .before .before .before in
-    let ok = is-true (d .balance-rows .result .ok) (c .before .before .before .before .before .before .before .before .before .before .before .if1 .left) in
-    let us = tasksOf (d .balance-rows .last .0) in
+    let ok = is-true (d .balance .result .ok) (c .before .before .before .before .before .before .before .before .before .before .before .if1 .left) in
+    let us = tasksOf (d .balance .last .0) in
     let vs = tasksOf (e .steps-rows .last .1 .1 .0) in
     let k = keeps d ok in
     (
       e .steps-rows .ensures .0 ∙ sym (pass-plan (qs b) (ts b) (b .pre .0) us (plan d ok)),
       λ h.
       let g = steps-keep (qs b) us (k .accepted) vs (sym (e .steps-rows .ensures .0) ∙ ap (λ (x : Bool). outcomeOf x vs) h) in
-      noted-more (qs b) (ts b) (b .pre .0) us vs k g false (c .before .before .before .before .before .before .before .before .before .before .before .before .before .before .some-touched .result) (e .steps-rows .result .changed) (union (b .args .mask) (d .balance-rows .result .touched)) (e .steps-rows .result .mask)
+      noted-more (qs b) (ts b) (b .pre .0) us vs k g false (c .before .before .before .before .before .before .before .before .before .before .before .before .before .before .some-touched .result) (e .steps-rows .result .changed) (union (b .args .mask) (d .balance .result .touched)) (e .steps-rows .result .mask)
       (rw (c .before .before .before .before .before .before .before .before .before .before .before .before .before .before .some-touched .ensures) (noted d ok)) (e .steps-rows .ensures .1 h),
     )
 
@@ -129,7 +129,7 @@ pub pass-rows-spec : {M : Type 1} → statement M
 pass-rows-spec =
     tie.close
     (tie.spec
-    balance-rows-requires
+    balance-requires
     some-touched-requires
     same-length
     returns
