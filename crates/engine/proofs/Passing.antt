@@ -21,11 +21,11 @@ use Rattle.rules.specs.Step.{atLeastStep, resourceStep}
 use Rattle.rules.specs.Settle.{then, stepsFrom, pass, sameTasks}
 use Rattle.rules.specs.Calls.{check}
 use Rattle.rules.specs.Calls.Checked.{Accepted}
-use Rattle.rules.proofs.Keeps.{Keeps, Sound, play-sound}
+use Rattle.rules.proofs.Keeps.{Keeps, Sound, keeps-then, play-sound}
 use Rattle.rules.proofs.Passes.{steps-play}
 use Rattle.rules.specs.Moves.Move.{StepOf}
 use Rattle.rules.specs.Listing.{places}
-use Rattle.rules.proofs.Subs.{subs-self, subs-trans}
+use Rattle.rules.proofs.Subs.{subs-self}
 use Rattle.rules.proofs.Rooms.{keeps-rooms, keeps-less, less-changed}
 use Rattle.integers.proofs.Tests.{by-cases}
 use Rattle.rows.specs.View.{noResource}
@@ -93,15 +93,12 @@ module _ (qs : List Resource) (ts : List Task) (a : check qs ts ≡ Accepted) wh
             ∙ or-assoc before (not (sameTasks ts us)) (not (sameTasks us vs)) ∙ ap (or before) (change-in-all us vs k g);
       }
 
-  pub keeps-more : (us vs : List Task) → Keeps AtLeast qs ts us → Keeps AtLeast qs us vs → Keeps AtLeast qs ts vs
-  keeps-more us vs k g = record { same = g .same ∙ k .same; accepted = g .accepted; inside = subs-trans (g .inside) (k .inside) }
-
   -- before the first step
   pub passing-start : (before : Bool) (mask : ℕ) → Idle mask qs ts → Passing qs ts before 0 true before mask ts
   passing-start before mask idle =
       record {
         rest = refl;
-        going = λ h. record { keeps = record { same = refl; accepted = a; inside = subs-self ts }; noted = unchanged-noted qs ts mask before idle };
+        going = λ h. record { keeps = record { choices = λ cs k. refl; same = refl; accepted = a; inside = subs-self ts }; noted = unchanged-noted qs ts mask before idle };
       }
 
   -- after the step of place r
@@ -118,7 +115,7 @@ module _ (qs : List Resource) (ts : List Task) (a : check qs ts ≡ Accepted) wh
             λ h.
             let k = step-keeps qs us vs (g .keeps .accepted) r l (sym e ∙ ap (λ (b : Bool). outcomeOf b vs) h) in
             record {
-              keeps = keeps-more us vs (g .keeps) k;
+              keeps = keeps-then (g .keeps) k;
               noted = noted-more us vs (g .keeps) k before changed after mask next (g .noted) (f h);
             };
       }
