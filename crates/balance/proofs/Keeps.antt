@@ -1,26 +1,24 @@
 -- What balance leaves of tasks that fit still fits: each cut only narrows a range, and a range left empty is no plan.
-use mathlib.Core.Path.{_≡_, refl, sym, _∙_, subst}
-use mathlib.Core.Bool.{Bool, true, false}
+use mathlib.Core.Path.{_≡_, subst}
+use mathlib.Core.Bool.{false}
 use mathlib.Core.List.{List}
-use Prim.Native.Nat.{ℕ, _<_}
+use Prim.Native.Nat.{ℕ}
 use native.Mathlib.Omega.{arith}
 use lib.IntN.{ℤ}
 use lib.ListN.{length}
 use lib.Signed.{ltZ, _≤ℤ_}
 use Rattle.integers.specs.Whole.{larger, smaller}
-use Rattle.integers.specs.Tests.{if}
 use Rattle.integers.proofs.Z.{z, maxz, minz}
 use Rattle.integers.proofs.Tests.{by-cases}
 use Rattle.plan.specs.declared.Span.{Span}
 use Rattle.plan.specs.declared.Task.{Task}
 use Rattle.plan.specs.declared.Value.{Value}
 use Rattle.plan.specs.declared.Value.the-variants.{Origin, Duration, End}
-use Rattle.plan.specs.declared.Narrowed.{Narrowed}
 use Rattle.plan.specs.declared.Narrowed.the-variants.{Kept, RanOut}
 use Rattle.plan.specs.Days.{cutBelow, cutAbove, cutTo, emptySpan}
-use Rattle.rules.specs.Balance.{Outcome, cuts, unlessEmpty, balanced, balance}
+use Rattle.rules.specs.Balance.{cuts, unlessEmpty, balanced, balance}
 use Rattle.rules.specs.Balance.Outcome.{Plan}
-use Rattle.rows.specs.Fits.{Bounded, TaskFits, AllFit}
+use Rattle.rows.specs.Fits.{TaskFits, AllFit}
 use Rattle.rows.proofs.Walk.{each-all, each-length}
 
 -- ---- one range
