@@ -3,3 +3,4 @@ pub mod Facing
 pub mod Mask
 pub mod Passing
 pub mod Passes
+pub mod Calls

@@ -1,5 +1,6 @@
 -- What the engine's answers stand for on the page.
 use Prim.Native.Nat.{ℕ}
+use mathlib.Core.Bool.{Bool, true, false}
 use mathlib.Core.List.{List}
 use Rattle.plan.specs.declared.Task.{Task}
 use Rattle.plan.specs.declared.Answer.{Answer}
@@ -13,6 +14,11 @@ use Rattle.engine.specs.declared.Settling.the-variants.{After, NoPlan}
 abbrev pub settledOf : Settling → List Task → Settled
 settledOf (After n) us = Settled.After n us
 settledOf NoPlan us = Settled.Refused
+
+-- what a step or a pass leaves: it reports no passes
+abbrev pub leftOf : Bool → Settling
+leftOf true = After 0
+leftOf false = NoPlan
 
 -- what a call answers and leaves, of tasks ts that entered and tasks us that the rows hold now: on a refusal the caller keeps ts
 abbrev pub resultOf : Answer → List Task → List Task → Result

@@ -2,3 +2,4 @@
 pub mod Facing
 pub mod Mask
 pub mod Answers
+pub mod Calls

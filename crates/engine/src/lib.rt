@@ -13,14 +13,15 @@ ghost use Rattle.rules.specs.Allowed.{limitOn};
 ghost use Rattle.rules.specs.Balance.{balance};
 ghost use Rattle.rules.specs.Step.{negated, atLeastStep};
 ghost use Rattle.rules.specs.Settle.{sameTasks, stepsFrom, pass, settle};
-ghost use Rattle.rules.specs.Calls.{check, checkCall, balanceCall, stepCall, passCall, settleCall};
+ghost use Rattle.rules.specs.Calls.{check};
 ghost use Rattle.rules.specs.Calls.Checked.{Accepted};
 ghost use Rattle.rows.specs.View.{tasksOf, resourcesOf, noResource};
 ghost use Rattle.rows.specs.Changes.{outcomeOf, touchedBy};
 ghost use Rattle.rows.specs.Fits.{Bounded, AllBounded, AllFit};
 ghost use Rattle.engine.specs.Facing.{facing, turned, resourcesFacing, tasksFacing};
 ghost use Rattle.engine.specs.Mask.{Idle, Noted, Roomy};
-ghost use Rattle.engine.specs.Answers.{settledOf, resultOf};
+ghost use Rattle.engine.specs.Answers.{settledOf, leftOf, resultOf};
+ghost use Rattle.engine.specs.Calls.{everyPlace, placedIn, callOf, workOf};
 use entry::Entry;
 use plan::Answer;
 use plan::Power;
@@ -240,35 +241,82 @@ fn turn_rows(sense: Sense, s: &mut [[i64; 9]])
     }
 }
 
-// ---- the calls: each checks its own input
+// ---- the calls
 
-pub fn check_call(q: &[[i64; 2]], s: &[[i64; 9]]) -> Answer
-    ensures { λ r. ⌜ resultOf r (tasksOf (now (s .entry))) (tasksOf (now (s .entry))) ≡ checkCall (resourcesOf (now (q .entry))) (tasksOf (now (s .entry))) ⌝ }
+// What a caller can ask for.
+pub enum Call {
+    Check,
+    Balance,
+    Step(usize),
+    Pass,
+    Settle,
+}
+
+// "a resource step names a place not in the list"
+fn is_placed(c: Call, resources: usize) -> bool
+    ensures { λ r. ⌜ r ≡ placedIn resources c ⌝ }
 {
-    match entry::check(q, s) {
-        Entry::Refused(f) => Answer::Refused(f),
-        Entry::Accepted => Answer::Done(0),
+    match c {
+        Call::Step(p) => p < resources,
+        Call::Check => true,
+        Call::Balance => true,
+        Call::Pass => true,
+        Call::Settle => true,
     }
 }
 
-pub fn balance_call(q: &[[i64; 2]], s: &mut [[i64; 9]]) -> Answer
-    ensures { λ r. ⌜ resultOf r (tasksOf (now (s .entry))) (tasksOf (now (s .exit))) ≡ balanceCall (resourcesOf (now (q .entry))) (tasksOf (now (s .entry))) ⌝ }
+// A step or a pass makes no passes to report.
+fn left(ok: bool) -> Settling
+    ensures { λ r. ⌜ r ≡ leftOf ok ⌝ }
 {
-    match entry::check(q, s) {
-        Entry::Refused(f) => Answer::Refused(f),
-        Entry::Accepted => {
+    if ok { Settling::After(0) } else { Settling::NoPlan }
+}
+
+fn all_due() -> Passed
+    ensures { λ r. ⌜ (r .ok ≡ true) × (r .mask ≡ everyPlace) ⌝ }
+{
+    Passed {
+        ok: true,
+        changed: false,
+        mask: 0xffff_ffff_ffff_ffff,
+    }
+}
+
+// What is asked for, on tasks that passed the checks and face the steps.
+fn work(
+    c: Call,
+    sense: Sense,
+    q: &[[i64; 2]],
+    s: &mut [[i64; 9]],
+    keys: &mut [u64],
+    spare: &mut [u64],
+    ss: &mut [[i64; 4]],
+) -> Settling
+    requires { ⌜ (check (resourcesFacing sense (resourcesOf (now q))) (tasksOf (now s)) ≡ Accepted) × (placedIn (length (now q)) c ≡ true) ⌝ }
+    requires { ⌜ Roomy (length (now keys)) (length (now spare)) (length (now ss)) ⌝ }
+    ensures { λ r. ⌜ settledOf r (tasksOf (now (s .exit))) ≡ workOf c (resourcesFacing sense (resourcesOf (now (q .entry)))) (tasksOf (now (s .entry))) ⌝ }
+{
+    match c {
+        Call::Check => Settling::After(0),
+        Call::Balance => {
             let o = balance::balance(s);
-            if o.ok {
-                Answer::Done(0)
-            } else {
-                Answer::Refused(Refusal::NoPlan)
-            }
+            left(o.ok)
         }
+        Call::Step(p) => {
+            let o = step_due(sense, q, s, p, all_due(), keys, spare, ss);
+            left(o.ok)
+        }
+        Call::Pass => {
+            let o = pass_rows(sense, q, s, 0xffff_ffff_ffff_ffff, keys, spare, ss);
+            left(o.ok)
+        }
+        Call::Settle => settle_rows(sense, q, s, keys, spare, ss),
     }
 }
 
-// Settling in what is lent.
-fn settle_in(
+// A call on tasks that passed the checks, in what is lent: turned to face the steps, and back on success.
+fn worked(
+    c: Call,
     sense: Sense,
     q: &[[i64; 2]],
     s: &mut [[i64; 9]],
@@ -276,17 +324,12 @@ fn settle_in(
     spare: &mut [u64],
     ss: &mut [[i64; 4]],
 ) -> Answer
+    requires { ⌜ (check (resourcesOf (now q)) (tasksOf (now s)) ≡ Accepted) × (placedIn (length (now q)) c ≡ true) ⌝ }
     requires { ⌜ Roomy (length (now keys)) (length (now spare)) (length (now ss)) ⌝ }
-    ensures { λ r. ⌜ resultOf r (tasksOf (now (s .entry))) (tasksOf (now (s .exit))) ≡ settleCall sense (resourcesOf (now (q .entry))) (tasksOf (now (s .entry))) ⌝ }
+    ensures { λ r. ⌜ resultOf r (tasksOf (now (s .entry))) (tasksOf (now (s .exit))) ≡ callOf c sense (resourcesOf (now (q .entry))) (tasksOf (now (s .entry))) ⌝ }
 {
-    match entry::check(q, s) {
-        Entry::Refused(f) => {
-            return Answer::Refused(f);
-        }
-        Entry::Accepted => {}
-    }
     turn_rows(sense, s);
-    match settle_rows(sense, q, s, keys, spare, ss) {
+    match work(c, sense, q, s, keys, spare, ss) {
         Settling::NoPlan => Answer::Refused(Refusal::NoPlan),
         Settling::After(n) => {
             turn_rows(sense, s);

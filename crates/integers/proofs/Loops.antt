@@ -1,5 +1,4 @@
 -- Loops over a list, from the front: mapped in place, and a list laid over another.
--- `left` forms say what is still to do: with the first i done, applying the rest to the list as it is now gives the answer.
 use mathlib.Core.Path.{_≡_, refl, ap}
 use mathlib.Core.List.{List, [], _∷_, _++_, map}
 use Prim.Native.Nat.{ℕ, zero, suc, _+_, _≤_, _<_}
@@ -9,31 +8,39 @@ use lib.ListN.{length, take, drop, set, getD}
 
 -- ---- f of each element in its place
 module _ {A : Type 0} (f : A → A) where
-  -- the first i still stand, those after them are to be mapped
-  unfoldable pub mapLeft : ℕ → List A → List A
-  mapLeft zero xs = map f xs
-  mapLeft (suc i) [] = []
-  mapLeft (suc i) (x ∷ xs) = x ∷ mapLeft i xs
+  -- f of the first i, the others as they were
+  unfoldable pub mapped : ℕ → List A → List A
+  mapped zero xs = xs
+  mapped (suc i) [] = []
+  mapped (suc i) (x ∷ xs) = f x ∷ mapped i xs
 
-  pub map-start : (xs : List A) → mapLeft 0 xs ≡ map f xs
-  unfolding mapLeft
-  map-start xs = refl
+  pub mapped-none : (xs : List A) → mapped 0 xs ≡ xs
+  unfolding mapped
+  mapped-none xs = refl
 
-  map-suc : (d : A) (i : ℕ) (xs : List A) → i < length xs → mapLeft (suc i) (set xs i (f (getD xs i d))) ≡ mapLeft i xs
-  unfolding mapLeft
-  map-suc d i [] h = absurd (not-suc-le-zero h)
-  map-suc d zero (x ∷ xs) h = refl
-  map-suc d (suc i) (x ∷ xs) h = ap (λ (l : List A). x ∷ l) (map-suc d i xs (le-of-suc-le-suc h))
+  mapped-suc : (d : A) (i : ℕ) (xs : List A) → i < length xs → set (mapped i xs) i (f (getD xs i d)) ≡ mapped (suc i) xs
+  unfolding mapped
+  mapped-suc d i [] h = absurd (not-suc-le-zero h)
+  mapped-suc d zero (x ∷ xs) h = refl
+  mapped-suc d (suc i) (x ∷ xs) h = ap (λ (l : List A). f x ∷ l) (mapped-suc d i xs (le-of-suc-le-suc h))
 
-  pub map-step : (d : A) (i : ℕ) (xs : List A) → i < length xs → mapLeft (i + 1) (set xs i (f (getD xs i d))) ≡ mapLeft i xs
-  map-step d i xs h = rw add-one (map-suc d i xs h)
+  -- a store of f of what stood at i
+  pub mapped-more : (d : A) (i : ℕ) (xs : List A) → i < length xs → set (mapped i xs) i (f (getD xs i d)) ≡ mapped (i + 1) xs
+  mapped-more d i xs h = rw add-one (mapped-suc d i xs h)
 
-  pub map-end : (i : ℕ) (xs : List A) → length xs ≤ i → mapLeft i xs ≡ xs
-  unfolding mapLeft
-  map-end zero [] h = refl
-  map-end zero (x ∷ xs) h = absurd (not-suc-le-zero h)
-  map-end (suc i) [] h = refl
-  map-end (suc i) (x ∷ xs) h = ap (λ (l : List A). x ∷ l) (map-end i xs (le-of-suc-le-suc h))
+  -- what stands at i is what stood there
+  pub mapped-at : (d : A) (i : ℕ) (xs : List A) → getD (mapped i xs) i d ≡ getD xs i d
+  unfolding mapped
+  mapped-at d zero xs = refl
+  mapped-at d (suc i) [] = refl
+  mapped-at d (suc i) (x ∷ xs) = mapped-at d i xs
+
+  pub mapped-all : (i : ℕ) (xs : List A) → length xs ≤ i → mapped i xs ≡ map f xs
+  unfolding mapped
+  mapped-all zero [] h = refl
+  mapped-all zero (x ∷ xs) h = absurd (not-suc-le-zero h)
+  mapped-all (suc i) [] h = refl
+  mapped-all (suc i) (x ∷ xs) h = ap (λ (l : List A). f x ∷ l) (mapped-all i xs (le-of-suc-le-suc h))
 
 -- ---- a list laid over another
 module _ {A : Type 0} where

@@ -1,52 +1,63 @@
+-- Each task negated in its place, from the front.
+use borrow.Author.Needs.{needs}
+use native.Mathlib.Omega.{arith}
+use mathlib.Core.List.{List}
+use mathlib.Core.Path.{_≡_, refl, sym, ap, _∙_, subst}
+use Prim.Native.Nat.{ℕ, _≤_, _<_, _-_}
+use lib.ListN.{length, getD}
+use Rattle.integers.proofs.Loops.{mapped, mapped-none, mapped-more, mapped-at, mapped-all}
+use Rattle.plan.specs.declared.Task.{Task}
+use Rattle.rules.specs.Step.{negated}
+use Rattle.rows.specs.View.{tasksOf, noTask}
+use Rattle.rows.specs.Fits.{Bounded}
+use Rattle.rows.proofs.View.{length-tasks}
 use Rattle.engine.proofs.negate_rows.Statement.{statement}
 use Rattle.engine.proofs.negate_rows.Tie as tie
-use Rattle.engine.proofs.negate_rows.Reads as reads
-use Rattle.engine.proofs.negate_rows.Lts as lts
-use Rattle.engine.proofs.negated_task.Reads as negated-task-reads
-use Rattle.rows.proofs.put_task.Reads as put-task-reads
-use Rattle.rows.proofs.task_at.Reads as task-at-reads
 
 abbrev Inv-loop : tie.InvT-loop
-Inv-loop s₀ i₀ s i = ?
+Inv-loop s₀ i₀ s i = (i ≤ length s₀) × (length s ≡ length s₀) × (tasksOf s ≡ mapped negated i (tasksOf s₀))
 
 abbrev μ-loop : tie.MeasureT-loop
-μ-loop s₀ i₀ s i = ?
+μ-loop s₀ i₀ s i = length s₀ - i
 
--- src/lib.rt:223:5
 loop-holds : tie.Need-loop-holds Inv-loop μ-loop
-loop-holds c = ?
+loop-holds c = (omega arith, refl, sym (mapped-none negated (tasksOf (c .args .s .now))))
 
--- src/lib.rt:224:13
 task-at-requires : tie.Need-task-at-requires Inv-loop μ-loop
-task-at-requires c κs = ?
+task-at-requires c κs = search needs
 
--- src/lib.rt:225:30
 negated-task-requires : tie.Need-negated-task-requires Inv-loop μ-loop
-negated-task-requires c κs = ?
+negated-task-requires c κs =
+    let l = c .before .before .before .before in
+    let ts = tasksOf (l .before .args .s .now) in
+    let e : c .before .task-at .result ≡ getD ts (l .loop .i) noTask =
+      c .before .task-at .ensures ∙ ap (λ (x : List Task). getD x (l .loop .i) noTask) (l .loop .inv .2) ∙ mapped-at negated noTask (l .loop .i) ts in
+    subst Bounded (sym e) (l .before .pre (l .loop .i) (omega (arith, length-tasks (l .before .args .s .now))))
 
--- src/lib.rt:225:9
 put-task-requires : tie.Need-put-task-requires Inv-loop μ-loop
-put-task-requires c κs = ?
+put-task-requires c κs = search needs
 
--- src/lib.rt:226:9
 add-i : tie.Need-add-i Inv-loop μ-loop
-add-i c = ?
+add-i c = omega arith
 
--- src/lib.rt:223:5
 loop-less : tie.Need-loop-less Inv-loop μ-loop
-loop-less c = ?
+loop-less c = omega arith
 
--- src/lib.rt:223:5
 loop-again : tie.Need-loop-again Inv-loop μ-loop
-loop-again c = ?
+loop-again c =
+    let l = c .before .before .before .before .before .before .before in
+    let ts = tasksOf (l .before .args .s .now) in
+    let h : l .loop .i < length ts = omega (arith, length-tasks (l .before .args .s .now)) in
+    (omega arith, omega arith, cc (mapped-more negated noTask (l .loop .i) ts h, mapped-at negated noTask (l .loop .i) ts, c .before .put-task .ensures))
 
--- src/lib.rt:218:1
 same-length : tie.Need-same-length Inv-loop μ-loop
-same-length c = ?
+same-length c = omega arith
 
--- src/lib.rt:218:1
 returns : tie.Need-returns Inv-loop μ-loop
-returns c = ?
+returns c =
+    let l = c .before in
+    let ts = tasksOf (l .before .args .s .now) in
+    l .loop .inv .2 ∙ mapped-all negated (l .loop .i) ts (omega (arith, length-tasks (l .before .args .s .now)))
 
 pub negate-rows-spec : {M : Type 1} → statement M
 negate-rows-spec =
