@@ -1,0 +1,2 @@
+-- What follows for one task from the page and from what a profile tells.
+pub mod Others

@@ -1,0 +1,72 @@
+-- One task against a finished profile: what is asked, and the task that is left, put together from its parts.
+use mathlib.Core.Path.{_≡_}
+use mathlib.Core.Bool.{Bool, true}
+use mathlib.Core.List.{List, [], _∷_}
+use Prim.Native.Nat.{ℕ, _<_, _^_}
+use lib.Dec.{eqb}
+use lib.IntN.{ℤ, pos, negℤ, _+ℤ_, _-ℤ_}
+use lib.Signed.{ltZ}
+use Rattle.integers.specs.Tests.{if}
+use Rattle.integers.specs.Whole.{larger}
+use Rattle.integers.specs.Hull.{Left}
+use Rattle.integers.specs.Hull.Left.{Nothing, Some}
+use Rattle.plan.specs.declared.Task.{Task}
+use Rattle.plan.specs.declared.Span.{Span}
+use Rattle.plan.specs.declared.Narrowed.{Narrowed}
+use Rattle.plan.specs.declared.Narrowed.the-variants.{Kept, RanOut}
+use Rattle.plan.specs.declared.Value.the-variants.{Origin, Duration, End, Height, Set}
+use Rattle.plan.specs.Days.{daysOf, emptySpan, cutTo}
+use Rattle.plan.specs.Powers.{power, emptyPowers}
+use Rattle.rules.specs.Calls.{rangesFit}
+use Rattle.narrow.specs.declared.Days.{Days}
+use Rattle.narrow.specs.declared.Reach.{Reach}
+
+-- a place of a set, and a task that has passed the entry checks
+pub record Ready (r : ℕ) (t : Task) : Type 0 where
+  pub place : r < 64
+  pub fits : rangesFit t ≡ true
+
+-- t is one of the tasks
+pub data Among (t : Task) : List Task → Type 0 where
+  first : {ts : List Task} → Among t (t ∷ ts)
+  later : {u : Task} {ts : List Task} → Among t ts → Among t (u ∷ ts)
+
+-- ---- a task as its searches see it
+abbrev pub possibleDays : Task → Days
+possibleDays t = record { from = t .origin .low; to = t .end .high }
+
+abbrev pub runningDays : Task → Days
+runningDays t = record { from = t .origin .high; to = t .end .low }
+
+-- the slack below which a day is barred to a task that is not sure there
+abbrev pub under : Task → ℤ
+under t = larger (pos 0) (negℤ (t .height .high .0))
+
+abbrev pub reachOf : Task → Reach
+reachOf t = record { days = possibleDays t; sure = runningDays t; under = power (under t) }
+
+-- "it gets r as its only resource, origin within i - duration high + 1 .. i, end within i + 1 .. i + duration high", for the first and
+-- the last day i of s; a task that is nowhere needed stays
+unfoldable pub withNeeds : ℕ → Days → Task → Task
+withNeeds r s t =
+    if (ltZ (s .from .0) (t .end .high .0))
+    (record {
+      set = 2 ^ r;
+      origin = cutTo (s .to .0 -ℤ t .duration .high .0) (s .from .0) (t .origin);
+      duration = t .duration;
+      end = cutTo (s .to .0) (s .from .0 +ℤ t .duration .high .0) (t .end);
+      height = t .height;
+    })
+    t
+
+-- ---- what is left: a range whose low end is above its high end is empty
+abbrev pub leftOf : Span → Left
+leftOf s = if (emptySpan s) Nothing (Some (daysOf s))
+
+-- the task, or the first of its values of which nothing is left
+unfoldable pub finished : Task → Narrowed
+finished t =
+    if (emptySpan (t .origin)) (RanOut Origin)
+    (if (emptySpan (t .duration)) (RanOut Duration)
+    (if (emptySpan (t .end)) (RanOut End)
+    (if (emptyPowers (t .height)) (RanOut Height) (if (eqb (t .set) 0) (RanOut Set) (Kept t)))))
