@@ -1,2 +1,4 @@
 -- What follows for one task from the page and from what a profile tells.
 pub mod Others
+pub mod Told
+pub mod Left

@@ -2,7 +2,9 @@
 use mathlib.Core.Path.{_≡_, refl, sym, ap, _∙_, subst}
 use mathlib.Core.Bool.{Bool, true, false, not}
 use mathlib.Core.List.{List, [], _∷_}
-use Prim.Native.Nat.{ℕ, _<_}
+use Prim.Native.Nat.{ℕ, zero, suc, _<_}
+use native.Mathlib.Nat.{not-suc-le-zero, le-of-suc-le-suc}
+use lib.ListN.{length, getD}
 use lib.IntN.{ℤ, pos, negsuc, negℤ, _+ℤ_, _-ℤ_}
 use lib.Signed.{leZ, ltZ, _≤ℤ_, _<ℤ_}
 use Rattle.integers.specs.Tests.{if, and, any, all}
@@ -16,10 +18,9 @@ use Rattle.plan.specs.Sets.{has, only}
 use Rattle.plan.proofs.Sets.{only-is, has-alone}
 use Rattle.rules.specs.Step.{possible, running, sure, hope, total, others, counts, shortfall, needed, barred, listedDays}
 use Rattle.rules.specs.Calls.{rangesFit}
-use Rattle.rules.proofs.Days.{In, head, tail, listed}
+use Rattle.rules.proofs.Days.{In, listed}
 use Rattle.stretches.specs.Tells.{big, slackOn, tightOn}
 use Rattle.narrow.specs.Ready.{Among, under}
-use Rattle.narrow.specs.Ready.Among.{first, later}
 
 -- ---- the entry checks, as facts
 pub record Fit (t : Task) : Type 0 where
@@ -266,12 +267,18 @@ module _ (r : ℕ) (limit : ℤ → ℤ) (ts : List Task) (t : Task) (i : ℤ) w
 
 -- ---- one of the tasks
 pub among-in : {t : Task} {ts : List Task} → Among t ts → In t ts
-among-in first = head
-among-in (later k) = tail (among-in k)
+among-in Among.head = In.head
+among-in (Among.tail k) = In.tail (among-in k)
+
+-- what stands at a place is one of them
+pub among-at : (d : Task) (k : ℕ) (ts : List Task) → k < length ts → Among (getD ts k d) ts
+among-at d k [] h = absurd (not-suc-le-zero h)
+among-at d zero (t ∷ ts) h = Among.head
+among-at d (suc k) (t ∷ ts) h = Among.tail (among-at d k ts (le-of-suc-le-suc h))
 
 in-any : (q : Task → Bool) {t : Task} {ts : List Task} → In t ts → q t ≡ true → any q ts ≡ true
-in-any q {t} (head {ts}) e = any-first q t ts e
-in-any q (tail {u} {ts} k) e = any-later q u ts (in-any q k e)
+in-any q {t} (In.head {ts}) e = any-first q t ts e
+in-any q (In.tail {u} {ts} k) e = any-later q u ts (in-any q k e)
 
 -- no shortfall: on each of its sure days the hopes reach the limit
 pub no-short : (r : ℕ) (limit : ℤ → ℤ) (ts : List Task) (t : Task) → Fit t → In t ts → any (shortfall r limit ts) (listedDays ts) ≡ false → (i : ℤ) → sure r i t ≡ true → limit i ≤ℤ total r ts i

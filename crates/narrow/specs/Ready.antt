@@ -14,9 +14,9 @@ use Rattle.plan.specs.declared.Task.{Task}
 use Rattle.plan.specs.declared.Span.{Span}
 use Rattle.plan.specs.declared.Narrowed.{Narrowed}
 use Rattle.plan.specs.declared.Narrowed.the-variants.{Kept, RanOut}
-use Rattle.plan.specs.declared.Value.the-variants.{Origin, Duration, End, Height, Set}
-use Rattle.plan.specs.Days.{daysOf, emptySpan, cutTo}
-use Rattle.plan.specs.Powers.{power, emptyPowers}
+use Rattle.plan.specs.declared.Value.the-variants.{Origin, Duration, End, Set}
+use Rattle.plan.specs.Days.{day, daysOf, emptySpan, cutTo}
+use Rattle.plan.specs.Powers.{power}
 use Rattle.rules.specs.Calls.{rangesFit}
 use Rattle.narrow.specs.declared.Days.{Days}
 use Rattle.narrow.specs.declared.Reach.{Reach}
@@ -28,8 +28,8 @@ pub record Ready (r : ℕ) (t : Task) : Type 0 where
 
 -- t is one of the tasks
 pub data Among (t : Task) : List Task → Type 0 where
-  first : {ts : List Task} → Among t (t ∷ ts)
-  later : {u : Task} {ts : List Task} → Among t ts → Among t (u ∷ ts)
+  head : {ts : List Task} → Among t (t ∷ ts)
+  tail : {u : Task} {ts : List Task} → Among t ts → Among t (u ∷ ts)
 
 -- ---- a task as its searches see it
 abbrev pub possibleDays : Task → Days
@@ -63,10 +63,16 @@ withNeeds r s t =
 abbrev pub leftOf : Span → Left
 leftOf s = if (emptySpan s) Nothing (Some (daysOf s))
 
--- the task, or the first of its values of which nothing is left
+-- the task, or the first of its values of which nothing is left; the height is never that value
 unfoldable pub finished : Task → Narrowed
 finished t =
     if (emptySpan (t .origin)) (RanOut Origin)
     (if (emptySpan (t .duration)) (RanOut Duration)
-    (if (emptySpan (t .end)) (RanOut End)
-    (if (emptyPowers (t .height)) (RanOut Height) (if (eqb (t .set) 0) (RanOut Set) (Kept t)))))
+    (if (emptySpan (t .end)) (RanOut End) (if (eqb (t .set) 0) (RanOut Set) (Kept t))))
+
+-- a range d days earlier: an end less a duration is an origin
+abbrev pub earlier : ℤ → Span → Span
+earlier d s = record { low = day (s .low .0 -ℤ d); high = day (s .high .0 -ℤ d) }
+
+abbrev pub later : ℤ → Span → Span
+later d s = record { low = day (s .low .0 +ℤ d); high = day (s .high .0 +ℤ d) }
