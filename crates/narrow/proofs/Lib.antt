@@ -2,3 +2,4 @@
 pub mod Others
 pub mod Told
 pub mod Left
+pub mod Whole
