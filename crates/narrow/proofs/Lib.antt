@@ -3,3 +3,6 @@ pub mod Others
 pub mod Told
 pub mod Left
 pub mod Whole
+pub mod Order
+pub mod Up
+pub mod Down
