@@ -6,3 +6,6 @@ pub mod Whole
 pub mod Order
 pub mod Up
 pub mod Down
+pub mod Long
+pub mod Low
+pub mod Need

@@ -96,11 +96,16 @@ pub record Longest (q : ℤ → Bool) (a b m r : ℤ) : Type 0 where
 
 -- ---- needs: s runs from the first day that passes q to past the last; where there is none it is b and a
 pub record Needed (q : ℤ → Bool) (a b : ℤ) (s : Days) : Type 0 where
-  pub most : s .from .0 ≤ℤ b
-  pub least : a ≤ℤ s .to .0
   pub between : (i : ℤ) → q i ≡ true → (s .from .0 ≤ℤ i) × (i <ℤ s .to .0)
   pub first : s .from .0 <ℤ b → q (s .from .0) ≡ true
   pub last : a <ℤ s .to .0 → q (predℤ (s .to .0)) ≡ true
+
+-- both ends of s lie among the days w
+pub record Between (w s : Days) : Type 0 where
+  pub least : w .from .0 ≤ℤ s .from .0
+  pub most : s .from .0 ≤ℤ w .to .0
+  pub least-past : w .from .0 ≤ℤ s .to .0
+  pub most-past : s .to .0 ≤ℤ w .to .0
 
 -- ---- slack: some day of w stands in a stretch of slack x
 pub record Slack (ss : List Stretch) (w : Days) (x : ℤ) : Type 0 where
