@@ -7,13 +7,15 @@ use native.Mathlib.Omega.{arith}
 use lib.ListN.{length, getD}
 use lib.IntN.{ℤ, pos, _+ℤ_, _-ℤ_}
 use lib.Signed.{leZ, ltZ, _≤ℤ_, _<ℤ_}
+use mir.Syntax.{w64}
+use mir.Val.{SFits}
 use Rattle.integers.specs.Tests.{if, and}
 use Rattle.integers.proofs.Z.{z, +z, -z, ltZ-in}
 use Rattle.integers.proofs.Tests.{clash, by-cases, if-case, and-first, and-second, and-in}
 use Rattle.stretches.specs.declared.Stretch.{Stretch}
 use Rattle.stretches.specs.View.{noStretch}
 use Rattle.narrow.specs.declared.Part.{Part}
-use Rattle.narrow.specs.Searches.{OnPart, Found, Told, Hit, LastFree, back}
+use Rattle.narrow.specs.Searches.{OnPart, Found, Told, Hit, LastFree, Near, Placed, Short, back}
 use Rattle.narrow.proofs.Order.{Rising}
 use Rattle.narrow.proofs.Up.{lt-cases, below-cases}
 
@@ -117,3 +119,16 @@ module _ (part : Stretch → Part) (ss : List Stretch) (q : ℤ → Bool) (told 
           below-cases j k
           (λ c. let f = r .to j k c m in omega z)
           (λ c. let e : k ≡ j = omega arith in let f = subst (λ (n : ℕ). part (getD ss n noStretch) .to .0 ≤ℤ v) e h' in omega z)
+
+-- ---- the value stays among the days
+pub back-near : (p : Part) (d v : ℤ) → Placed p → Short d → Near v → Near (back p d v)
+back-near p d v h k n =
+    if-case Near (and (p .hit) (and (ltZ (p .from .0) (p .to .0)) (ltZ (p .from .0) (v +ℤ d)))) (p .from .0 -ℤ d) v
+    (λ e.
+      let f = and-second (p .hit) (and (ltZ (p .from .0) (p .to .0)) (ltZ (p .from .0) (v +ℤ d))) e in
+      let g : ltZ (p .from .0) (v +ℤ d) ≡ true = and-second (ltZ (p .from .0) (p .to .0)) (ltZ (p .from .0) (v +ℤ d)) f in
+      omega (z, +z v d, -z (p .from .0) d))
+    (λ e. n)
+
+pub fits-back : (p : Part) (d : ℤ) → Placed p → Short d → ltZ (p .from .0) (p .to .0) ≡ true → SFits w64 (p .from .0 -ℤ d)
+fits-back p d h k e = omega (z, -z (p .from .0) d)

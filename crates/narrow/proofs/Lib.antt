@@ -9,3 +9,4 @@ pub mod Down
 pub mod Long
 pub mod Low
 pub mod Need
+pub mod Freed

@@ -19,7 +19,7 @@ use Rattle.stretches.specs.declared.Stretch.{Stretch}
 use Rattle.stretches.specs.View.{noStretch}
 use Rattle.narrow.specs.declared.Days.{Days}
 use Rattle.narrow.specs.declared.Part.{Part}
-use Rattle.narrow.specs.Searches.{OnPart, Found, Told, room, TooLong, Longest, Half, shorter}
+use Rattle.narrow.specs.Searches.{OnPart, Found, Told, room, TooLong, Longest, Half, Dated, Placed, shorter}
 use Rattle.narrow.proofs.Up.{lt-cases, below-more}
 
 -- what a part of days a .. b - 1 leaves of the days low .. high - 1, of which h is half
@@ -183,8 +183,10 @@ pub record Halved (a b x : ℤ) : Type 0 where
   pub half : Half a b (quotZ x (pos 2))
   pub least : pos 0 ≤ℤ quotZ x (pos 2)
 
-pub halved : (a b x : ℤ) → x ≡ b -ℤ a → negsuc 99999 ≤ℤ a → b ≤ℤ pos 100000 → a ≤ℤ b → Halved a b x
-halved a b (pos n) e h k l =
+pub halved : (w : Days) (x : ℤ) → x ≡ w .to .0 -ℤ w .from .0 → Dated w → Halved (w .from .0) (w .to .0) x
+halved w (pos n) e h =
+    let a = w .from .0 in
+    let b = w .to .0 in
     let y = pos (n / 2) in
     record {
       whole = omega (z, -z b a);
@@ -192,7 +194,17 @@ halved a b (pos n) e h k l =
       half = record { under = omega (z, -z b a, +z y y); over = omega (z, -z b a, +z y y, +z (y +ℤ y) (pos 1)) };
       least = omega z;
     }
-halved a b (negsuc n) e h k l = absurd no
+halved w (negsuc n) e h = absurd no
   where
     no : ⊥
-    no = omega (z, -z b a)
+    no = omega (z, -z (w .to .0) (w .from .0))
+
+-- ---- differences of days fit
+pub fits-from : (p : Part) (w : Days) → Placed p → Dated w → ltZ (p .from .0) (p .to .0) ≡ true → SFits w64 (p .from .0 -ℤ w .from .0)
+fits-from p w h k e = omega (z, -z (p .from .0) (w .from .0))
+
+pub fits-to : (p : Part) (w : Days) → Placed p → Dated w → ltZ (p .from .0) (p .to .0) ≡ true → SFits w64 (w .to .0 -ℤ p .to .0)
+fits-to p w h k e = omega (z, -z (w .to .0) (p .to .0))
+
+pub fits-whole : (w : Days) → Dated w → SFits w64 (w .to .0 -ℤ w .from .0)
+fits-whole w h = omega (z, -z (w .to .0) (w .from .0))

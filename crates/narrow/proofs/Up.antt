@@ -8,15 +8,19 @@ use native.Mathlib.Omega.{arith}
 use borrow.Author.Tests.{ltb-true, ltb-false}
 use lib.Dec.{ltb}
 use lib.ListN.{length, getD}
-use lib.IntN.{ℤ, pos, _+ℤ_, _-ℤ_}
+use lib.IntN.{ℤ, pos, negsuc, _+ℤ_, _-ℤ_}
 use lib.Signed.{leZ, ltZ, _≤ℤ_, _<ℤ_}
+use mir.Syntax.{w64}
+use mir.Val.{SFits}
 use Rattle.integers.specs.Tests.{if, and}
-use Rattle.integers.proofs.Z.{z, +z, -z, ltZ-in}
+use Rattle.integers.specs.Whole.{larger, smaller}
+use Rattle.integers.proofs.Z.{z, +z, -z, maxz, minz, ltZ-in}
 use Rattle.integers.proofs.Tests.{clash, by-cases, if-case, and-first, and-second, and-in}
 use Rattle.stretches.specs.declared.Stretch.{Stretch}
 use Rattle.stretches.specs.View.{noStretch}
 use Rattle.narrow.specs.declared.Part.{Part}
-use Rattle.narrow.specs.Searches.{OnPart, Found, Told, Hit, FirstFree, past}
+use Rattle.narrow.specs.declared.Reach.{Reach}
+use Rattle.narrow.specs.Searches.{barredPart, OnPart, Found, Told, Hit, FirstFree, Near, Dated, Placed, Short, past}
 use Rattle.narrow.proofs.Order.{Rising}
 
 pub lt-cases : {P : Type 0} (a b : ℤ) → (a <ℤ b → P) → (b ≤ℤ a → P) → P
@@ -126,3 +130,25 @@ module _ (part : Stretch → Part) (ss : List Stretch) (q : ℤ → Bool) (told 
             below-cases k j
             (λ c. let f = r .from k j c y in omega z)
             (λ c. let e : k ≡ j = omega arith in let f = subst (λ (n : ℕ). (v +ℤ d) ≤ℤ part (getD ss n noStretch) .from .0) e h' in omega z)
+
+-- ---- the value stays among the days
+pub barred-placed : (x : Reach) (s : Stretch) (p : Part) → p ≡ barredPart x s → Dated (x .days) → Placed p
+barred-placed x s p is h =
+    let a : negsuc 99999 ≤ℤ larger (s .from .0) (x .days .from .0) = omega (z, maxz (s .from .0) (x .days .from .0)) in
+    let b : smaller (s .to .0) (x .days .to .0) ≤ℤ pos 100000 = omega (z, minz (s .to .0) (x .days .to .0)) in
+    record {
+      floor = subst (λ (c : Part). negsuc 99999 ≤ℤ c .from .0) (sym is) a;
+      top = subst (λ (c : Part). c .to .0 ≤ℤ pos 100000) (sym is) b;
+    }
+
+pub past-near : (p : Part) (v : ℤ) → Placed p → Near v → Near (past p v)
+past-near p v h n =
+    if-case Near (and (p .hit) (and (ltZ (p .from .0) (p .to .0)) (ltZ v (p .to .0)))) (p .to .0) v
+    (λ e.
+      let f = and-second (p .hit) (and (ltZ (p .from .0) (p .to .0)) (ltZ v (p .to .0))) e in
+      let g : ltZ v (p .to .0) ≡ true = and-second (ltZ (p .from .0) (p .to .0)) (ltZ v (p .to .0)) f in
+      omega z)
+    (λ e. n)
+
+pub fits-plus : (d v : ℤ) → Short d → Near v → SFits w64 (v +ℤ d)
+fits-plus d v h n = omega (z, +z v d)

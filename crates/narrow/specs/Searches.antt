@@ -127,12 +127,20 @@ pub record Near (x : ℤ) : Type 0 where
   pub over : negsuc 199999 ≤ℤ x
   pub under : x ≤ℤ pos 200000
 
--- the task's days, and a duration, in their ends
-pub record Search (x : Reach) (d : ℤ) : Type 0 where
-  pub floor : negsuc 99999 ≤ℤ x .days .from .0
-  pub top : x .days .to .0 ≤ℤ pos 100000
+-- days in their ends, the first not past the last
+pub record Dated (w : Days) : Type 0 where
+  pub floor : negsuc 99999 ≤ℤ w .from .0
+  pub top : w .to .0 ≤ℤ pos 100000
+  pub full : w .from .0 ≤ℤ w .to .0
+
+pub record Placed (p : Part) : Type 0 where
+  pub floor : negsuc 99999 ≤ℤ p .from .0
+  pub top : p .to .0 ≤ℤ pos 100000
+
+-- a number of days in its ends
+pub record Short (d : ℤ) : Type 0 where
   pub none : pos 0 ≤ℤ d
-  pub short : d ≤ℤ pos 10000
+  pub most : d ≤ℤ pos 10000
 
 -- v, or the first day past the part if the part is hit and has days from v on
 abbrev pub past : Part → ℤ → ℤ
