@@ -4,4 +4,6 @@ pub mod Listing
 pub mod Balance
 pub mod Step
 pub mod Settle
+pub mod Moves
+pub mod Fixed
 pub mod Calls

@@ -1,0 +1,257 @@
+-- A change elsewhere does not concern r: where the step of r changes nothing on ts, it changes nothing on ts with some tasks replaced,
+-- if none of those has r in its set, before or after.
+use mathlib.Core.Path.{_≡_, refl, sym, ap, ap₂, _∙_, subst}
+use Prim.Native.Nat.{ℕ, zero, suc, _+_, _^_}
+use native.Mathlib.Omega.{arith}
+use mathlib.Core.List.{List, [], _∷_}
+use mathlib.Core.Bool.{Bool, true, false, not}
+use lib.IntN.{ℤ, pos, _+ℤ_, _-ℤ_, +ℤ-idl}
+use lib.Signed.{leZ, ltZ, _≤ℤ_, _<ℤ_}
+use Rattle.integers.specs.Tests.{if, and, or, implies, filter, all, any}
+use Rattle.integers.specs.Sums.{sumOf}
+use Rattle.integers.specs.Hull.{Range, hull, values, left}
+use Rattle.integers.proofs.Tests.{clash, by-cases, if-case, false-in, same-test, implies-in, and-in, and-first, and-second, not-in, not-out, not-any, or-left, all-in, any-none, filter-same}
+use Rattle.plan.specs.declared.Task.{Task}
+use Rattle.plan.specs.declared.Narrowed.{Narrowed}
+use Rattle.plan.specs.declared.Narrowed.the-variants.{Kept, RanOut}
+use Rattle.plan.specs.declared.Sense.the-variants.{AtLeast}
+use Rattle.plan.specs.Days.{daysOf}
+use Rattle.plan.specs.Powers.{powersOf}
+use Rattle.plan.specs.Sets.{has, only, without}
+use Rattle.rules.specs.Balance.{Outcome, andThen, each}
+use Rattle.rules.specs.Balance.Outcome.{NoPlan, Plan}
+use Rattle.rules.specs.Step.{possible, running, sure, hope, total, others, counts, shortfall, needed, barred, shut, keepsOrigin, keepsDuration, keepsEnd, keepsHeight, neededSet, keptSet, narrowed, listedDays, atLeastStep, resourceStep}
+use Rattle.rules.specs.Settle.{sameTask}
+use Rattle.rules.proofs.Days.{In, every-day}
+use Rattle.rules.proofs.Days.In.{head, tail}
+use Rattle.rules.proofs.Live.{Live, Lives}
+use Rattle.rules.proofs.Live.Lives.{no-lives, more-lives}
+use Rattle.rules.proofs.Subs.{SubTask, Subs}
+use Rattle.rules.proofs.Subs.Subs.{no-subs, more-subs}
+use Rattle.rules.proofs.Rooms.{same-task-is}
+use Rattle.rules.proofs.Shrinks.{Shrunk, resource-step-shrunk}
+use Rattle.rules.proofs.Quiet.{possible-away, sure-away, narrowed-away}
+use Rattle.rules.proofs.Unlisted.{sure-possible, needed-possible, barred-possible, shut-possible, live-in, no-shortfall-ever}
+
+-- us is ts with some tasks replaced, none of which has r in its set; what replaces is not empty
+pub data Beside (r : ℕ) : List Task → List Task → Type 0 where
+  no-tasks : Beside r [] []
+  same-task : {t : Task} {ts us : List Task} → Beside r ts us → Beside r (t ∷ ts) (t ∷ us)
+  other-task : {t u : Task} {ts us : List Task} → has (t .set) r ≡ false → has (u .set) r ≡ false → Live u → Beside r ts us → Beside r (t ∷ ts) (u ∷ us)
+
+-- as a test, on what a step left: each task is as it was, or did not have r
+unfoldable pub besideTest : ℕ → List Task → List Task → Bool
+besideTest r [] [] = true
+besideTest r [] (u ∷ us) = false
+besideTest r (t ∷ ts) [] = false
+besideTest r (t ∷ ts) (u ∷ us) = and (or (sameTask t u) (not (has (t .set) r))) (besideTest r ts us)
+
+pub beside-is : (r : ℕ) {ts us : List Task} → Subs us ts → Lives us → besideTest r ts us ≡ true → Beside r ts us
+unfolding besideTest
+beside-is r no-subs no-lives h = no-tasks
+beside-is r (more-subs {u} {t} {us} {ts} s f) (more-lives l k) h =
+    let rest = beside-is r f k (and-second (or (sameTask t u) (not (has (t .set) r))) (besideTest r ts us) h) in
+    by-cases (sameTask t u)
+    (λ e. subst (λ v. Beside r (t ∷ ts) (v ∷ us)) (same-task-is t u e) (same-task rest))
+    (λ e.
+    let away : has (t .set) r ≡ false =
+    not-out (has (t .set) r) (sym (or-left (sameTask t u) (not (has (t .set) r)) e) ∙ and-first (or (sameTask t u) (not (has (t .set) r))) (besideTest r ts us) h) in
+    other-task away (false-in (has (u .set) r) (λ g. clash (has (t .set) r) (s .set r g) away)) l rest)
+
+-- ---- what the rules of r read of the list stays
+hope-away : (r : ℕ) (t : Task) → has (t .set) r ≡ false → (i : ℤ) → hope r i t ≡ pos 0
+unfolding hope
+hope-away r t e i =
+    rw (possible-away r (λ i. i) [] t e i, sure-away r (λ i. i) [] t e i)
+    (if-case (λ x. x ≡ pos 0) (ltZ (pos 0) (t .height .high .0)) (pos 0) (pos 0) (λ e. refl) (λ e. refl))
+
+pub total-beside : (r : ℕ) {ts us : List Task} → Beside r ts us → (i : ℤ) → total r ts i ≡ total r us i
+unfolding total sumOf
+total-beside r no-tasks i = refl
+total-beside r (same-task {t} b) i = ap (λ (x : ℤ). hope r i t +ℤ x) (total-beside r b i)
+total-beside r (other-task {t} {u} e f l b) i =
+    ap₂ _+ℤ_ (hope-away r t e i ∙ sym (hope-away r u f i)) (total-beside r b i)
+
+pub counts-beside : (r : ℕ) {ts us : List Task} → Beside r ts us → (i : ℤ) → counts r ts i ≡ counts r us i
+unfolding counts any
+counts-beside r no-tasks i = refl
+counts-beside r (same-task {t} b) i = ap (or (sure r i t)) (counts-beside r b i)
+counts-beside r (other-task {t} {u} e f l b) i =
+    ap₂ or (sure-away r (λ i. i) [] t e i ∙ sym (sure-away r (λ i. i) [] u f i)) (counts-beside r b i)
+
+-- ---- a task of both lists: what the rules leave of it over all listed days of the one, they leave over any days of the other
+module _ (r : ℕ) (limit : ℤ → ℤ) (t : Task) (l : Live t) (ts us : List Task) (same-total : (i : ℤ) → total r ts i ≡ total r us i) (same-counts : (i : ℤ) → counts r ts i ≡ counts r us i) (k : In t ts) (days : List ℤ) where
+  others-same : (i : ℤ) → others r ts t i ≡ others r us t i
+  unfolding others
+  others-same i = ap (λ (x : ℤ). x -ℤ hope r i t) (same-total i)
+
+  needed-same : (i : ℤ) → needed r limit ts t i ≡ needed r limit us t i
+  unfolding needed
+  needed-same i = rw (same-counts i, others-same i)
+
+  barred-same : (i : ℤ) → barred r limit ts t i ≡ barred r limit us t i
+  unfolding barred
+  barred-same i = rw (others-same i)
+
+  shut-same : (i : ℤ) → shut r limit ts t i ≡ shut r limit us t i
+  unfolding shut
+  shut-same i = ap (and (only (t .set) r)) (barred-same i)
+
+  no-need : (i : ℤ) → possible r i t ≡ false → needed r limit ts t i ≡ false
+  no-need i e = false-in (needed r limit ts t i) (λ h. clash (possible r i t) (needed-possible r i t limit ts h) e)
+
+  no-bar : (i : ℤ) → possible r i t ≡ false → barred r limit ts t i ≡ false
+  no-bar i e = false-in (barred r limit ts t i) (λ h. clash (possible r i t) (barred-possible r i t limit ts h) e)
+
+  no-shut : (i : ℤ) → possible r i t ≡ false → shut r limit ts t i ≡ false
+  no-shut i e = false-in (shut r limit ts t i) (λ h. clash (possible r i t) (shut-possible r i t limit ts h) e)
+
+  no-sure : (i : ℤ) → possible r i t ≡ false → sure r i t ≡ false
+  no-sure i e = false-in (sure r i t) (λ h. clash (possible r i t) (sure-possible r i t l h) e)
+
+  spoken : (p q : ℤ → Bool) → all (λ i. and (implies (needed r limit ts t i) (p i)) (implies (shut r limit ts t i) (q i))) (listedDays ts) ≡ true → all (λ i. and (implies (needed r limit us t i) (p i)) (implies (shut r limit us t i) (q i))) days ≡ true
+  spoken p q h =
+      all-in _ days λ i.
+      across i (every-day r (λ i. and (implies (needed r limit ts t i) (p i)) (implies (shut r limit ts t i) (q i))) t ts k (λ i e. rw (no-need i e, no-shut i e)) h i)
+    where
+      across : (i : ℤ) → and (implies (needed r limit ts t i) (p i)) (implies (shut r limit ts t i) (q i)) ≡ true → and (implies (needed r limit us t i) (p i)) (implies (shut r limit us t i) (q i)) ≡ true
+      across i g = rw (needed-same i, shut-same i) at g
+
+  origin-over : (v : ℤ) → keepsOrigin r limit ts (listedDays ts) t v ≡ true → keepsOrigin r limit us days t v ≡ true
+  unfolding keepsOrigin
+  origin-over v h = spoken _ _ h
+
+  end-over : (v : ℤ) → keepsEnd r limit ts (listedDays ts) t v ≡ true → keepsEnd r limit us days t v ≡ true
+  unfolding keepsEnd
+  end-over v h = spoken _ _ h
+
+  shut-spoken : (p : ℤ → Bool) → all (λ i. implies (shut r limit ts t i) (p i)) (listedDays ts) ≡ true → all (λ i. implies (shut r limit us t i) (p i)) days ≡ true
+  shut-spoken p h =
+      all-in _ days λ i.
+      rw (shut-same i) at (every-day r (λ i. implies (shut r limit ts t i) (p i)) t ts k (λ i e. rw (no-shut i e)) h i)
+
+  duration-over : (v : ℤ) → keepsDuration r limit ts (listedDays ts) t v ≡ true → keepsDuration r limit us days t v ≡ true
+  unfolding keepsDuration
+  duration-over v h = shut-spoken _ h
+
+  height-over : (v : ℤ) → keepsHeight r limit ts (listedDays ts) t v ≡ true → keepsHeight r limit us days t v ≡ true
+  unfolding keepsHeight
+  height-over v h =
+      all-in _ days λ i.
+      rw (others-same i) at (every-day r (λ i. implies (sure r i t) (leZ (limit i -ℤ others r ts t i) v)) t ts k (λ i e. rw (no-sure i e)) h i)
+
+  -- a rule that never fires on the listed days never fires
+  never-over : (p q : ℤ → Bool) → ((i : ℤ) → possible r i t ≡ false → p i ≡ false) → ((i : ℤ) → p i ≡ q i) → any p (listedDays ts) ≡ false → any q days ≡ false
+  never-over p q f e h =
+      any-none q days λ i a.
+      clash (p i) (e i ∙ a)
+      (not-out (p i) (every-day r (λ i. not (p i)) t ts k (λ i g. rw (f i g)) (not-any p (listedDays ts) h) i))
+
+  needed-over : any (needed r limit ts t) (listedDays ts) ≡ false → any (needed r limit us t) days ≡ false
+  needed-over h = never-over (needed r limit ts t) (needed r limit us t) no-need needed-same h
+
+  barred-over : any (λ i. and (barred r limit ts t i) (running r i t)) (listedDays ts) ≡ false → any (λ i. and (barred r limit us t i) (running r i t)) days ≡ false
+  barred-over h =
+      never-over (λ i. and (barred r limit ts t i) (running r i t)) (λ i. and (barred r limit us t i) (running r i t))
+      (λ i e. rw (no-bar i e))
+      (λ i. ap (λ b. and b (running r i t)) (barred-same i))
+      h
+
+same-false : (a b : Bool) → (a ≡ false → b ≡ false) → (b ≡ false → a ≡ false) → a ≡ b
+same-false true true f g = refl
+same-false true false f g = g refl
+same-false false b f g = sym (f refl)
+
+left-same : (p q : ℤ → Bool) (s : Range) → ((v : ℤ) → p v ≡ q v) → left p s ≡ left q s
+unfolding left
+left-same p q s h = ap hull (filter-same p q h (values s))
+
+-- so a step leaves the same of it
+module _ (r : ℕ) (limit : ℤ → ℤ) (t : Task) (l : Live t) (ts us : List Task) (same-total : (i : ℤ) → total r ts i ≡ total r us i) (same-counts : (i : ℤ) → counts r ts i ≡ counts r us i) (k : In t ts) (k' : In t us) where
+  back-total : (i : ℤ) → total r us i ≡ total r ts i
+  back-total i = sym (same-total i)
+
+  back-counts : (i : ℤ) → counts r us i ≡ counts r ts i
+  back-counts i = sym (same-counts i)
+
+  needed-set-same : neededSet r limit ts (listedDays ts) t ≡ neededSet r limit us (listedDays us) t
+  unfolding neededSet
+  needed-set-same =
+      ap (λ b. if b (2 ^ r) (t .set))
+      (same-false (any (needed r limit ts t) (listedDays ts)) (any (needed r limit us t) (listedDays us))
+      (needed-over r limit t l ts us same-total same-counts k (listedDays us))
+      (needed-over r limit t l us ts back-total back-counts k' (listedDays ts)))
+
+  kept-set-same : keptSet r limit ts (listedDays ts) t ≡ keptSet r limit us (listedDays us) t
+  unfolding keptSet
+  kept-set-same =
+      ap₂ (λ (b : Bool) (s : ℕ). if b (without s r) s)
+      (same-false (any (λ i. and (barred r limit ts t i) (running r i t)) (listedDays ts)) (any (λ i. and (barred r limit us t i) (running r i t)) (listedDays us))
+      (barred-over r limit t l ts us same-total same-counts k (listedDays us))
+      (barred-over r limit t l us ts back-total back-counts k' (listedDays ts)))
+      needed-set-same
+
+  pub narrowed-same : narrowed r limit ts (listedDays ts) t ≡ narrowed r limit us (listedDays us) t
+  unfolding narrowed
+  narrowed-same =
+      rw (
+        left-same (keepsOrigin r limit ts (listedDays ts) t) (keepsOrigin r limit us (listedDays us) t) (daysOf (t .origin))
+            (λ v. same-test _ _ (origin-over r limit t l ts us same-total same-counts k (listedDays us) v) (origin-over r limit t l us ts back-total back-counts k' (listedDays ts) v)),
+        left-same (keepsDuration r limit ts (listedDays ts) t) (keepsDuration r limit us (listedDays us) t) (daysOf (t .duration))
+            (λ v. same-test _ _ (duration-over r limit t l ts us same-total same-counts k (listedDays us) v) (duration-over r limit t l us ts back-total back-counts k' (listedDays ts) v)),
+        left-same (keepsEnd r limit ts (listedDays ts) t) (keepsEnd r limit us (listedDays us) t) (daysOf (t .end))
+            (λ v. same-test _ _ (end-over r limit t l ts us same-total same-counts k (listedDays us) v) (end-over r limit t l us ts back-total back-counts k' (listedDays ts) v)),
+        left-same (keepsHeight r limit ts (listedDays ts) t) (keepsHeight r limit us (listedDays us) t) (powersOf (t .height))
+            (λ v. same-test _ _ (height-over r limit t l ts us same-total same-counts k (listedDays us) v) (height-over r limit t l us ts back-total back-counts k' (listedDays ts) v)),
+        kept-set-same,
+      )
+
+-- ---- a step that changes nothing keeps every task, and the other way round
+and-then-still : (t : Task) (ts : List Task) (n : Narrowed) (o : Outcome) → andThen n o ≡ Plan (t ∷ ts) → (n ≡ Kept t) × (o ≡ Plan ts)
+and-then-still t ts (RanOut v) o e = let q : _≡_ {A = ℕ} 0 1 = cc (e) in absurd (omega arith)
+and-then-still t ts (Kept u) NoPlan e = let q : _≡_ {A = ℕ} 0 1 = cc (e) in absurd (omega arith)
+and-then-still t ts (Kept u) (Plan us) e =
+    let a : u ≡ t = cc (e) in
+    let b : us ≡ ts = cc (e) in
+    (ap Kept a, ap Plan b)
+
+pub still-each : (f : Task → Narrowed) (ts : List Task) → each f ts ≡ Plan ts → (t : Task) → In t ts → f t ≡ Kept t
+unfolding each
+still-each f ts e t (head {ts = us}) = and-then-still t us (f t) (each f us) e .0
+still-each f ts e t (tail {u} {ts = us} k) = still-each f us (and-then-still u us (f u) (each f us) e .1) t k
+
+module _ (r : ℕ) (limit : ℤ → ℤ) (ts us : List Task) (beside : Beside r ts us) (lives : Lives ts) (still : (t : Task) → In t ts → narrowed r limit ts (listedDays ts) t ≡ Kept t) where
+  each-beside : {vs ws : List Task} → Beside r vs ws → ((t : Task) → In t vs → In t ts) → ((u : Task) → In u ws → In u us) → each (narrowed r limit us (listedDays us)) ws ≡ Plan ws
+  unfolding each
+  each-beside no-tasks f g = refl
+  each-beside (same-task {t} {us = ws} b) f g =
+      let kept : narrowed r limit us (listedDays us) t ≡ Kept t =
+      sym (narrowed-same r limit t (live-in lives (f t head)) ts us (total-beside r beside) (counts-beside r beside) (f t head) (g t head)) ∙ still t (f t head) in
+      ap₂ andThen kept (each-beside b (λ v k. f v (tail k)) (λ v k. g v (tail k)))
+  each-beside (other-task {u} {us = ws} a b l c) f g =
+      ap₂ andThen (narrowed-away r limit us u b (listedDays us) l) (each-beside c (λ v k. f v (tail k)) (λ v k. g v (tail k)))
+
+shortfall-beside : (r : ℕ) (limit : ℤ → ℤ) {ts us : List Task} → Beside r ts us → (i : ℤ) → shortfall r limit ts i ≡ shortfall r limit us i
+unfolding shortfall
+shortfall-beside r limit b i = rw (counts-beside r b i, total-beside r b i)
+
+if-plan : (b : Bool) (o : Outcome) (ts : List Task) → if b NoPlan o ≡ Plan ts → (b ≡ false) × (o ≡ Plan ts)
+if-plan true o ts e = let q : _≡_ {A = ℕ} 0 1 = cc (e) in absurd (omega arith)
+if-plan false o ts e = (refl, e)
+
+-- what a step leaves is not empty
+step-lives : (r : ℕ) (limit : ℤ → ℤ) (ts : List Task) → atLeastStep r limit ts ≡ Plan ts → Lives ts
+unfolding resourceStep
+step-lives r limit ts e =
+    let s : Shrunk ts (Plan ts) = subst (Shrunk ts) e (resource-step-shrunk AtLeast r limit ts) in
+    s .1
+
+pub step-elsewhere : (r : ℕ) (limit : ℤ → ℤ) (ts us : List Task) → Beside r ts us → atLeastStep r limit ts ≡ Plan ts → atLeastStep r limit us ≡ Plan us
+unfolding atLeastStep
+step-elsewhere r limit ts us b e =
+    let parts = if-plan (any (shortfall r limit ts) (listedDays ts)) (each (narrowed r limit ts (listedDays ts)) ts) ts e in
+    let lives = step-lives r limit ts e in
+    let none : any (shortfall r limit us) (listedDays us) ≡ false =
+    any-none (shortfall r limit us) (listedDays us) (λ i s. clash (shortfall r limit ts i) (shortfall-beside r limit b i ∙ s) (no-shortfall-ever r limit ts lives (parts .0) i)) in
+    rw none
+    (each-beside r limit ts us b lives (still-each (narrowed r limit ts (listedDays ts)) ts (parts .1)) b (λ t k. k) (λ u k. k))
