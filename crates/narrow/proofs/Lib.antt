@@ -10,3 +10,4 @@ pub mod Long
 pub mod Low
 pub mod Need
 pub mod Freed
+pub mod Page

@@ -1,6 +1,6 @@
 -- One task against a finished profile: what is asked, and the task that is left, put together from its parts.
 use mathlib.Core.Path.{_≡_}
-use mathlib.Core.Bool.{Bool, true}
+use mathlib.Core.Bool.{Bool, true, false}
 use mathlib.Core.List.{List, [], _∷_}
 use Prim.Native.Nat.{ℕ, _<_, _^_}
 use lib.Dec.{eqb}
@@ -12,14 +12,17 @@ use Rattle.integers.specs.Hull.{Left}
 use Rattle.integers.specs.Hull.Left.{Nothing, Some}
 use Rattle.plan.specs.declared.Task.{Task}
 use Rattle.plan.specs.declared.Span.{Span}
+use Rattle.plan.specs.declared.PowerSpan.{PowerSpan}
 use Rattle.plan.specs.declared.Narrowed.{Narrowed}
 use Rattle.plan.specs.declared.Narrowed.the-variants.{Kept, RanOut}
 use Rattle.plan.specs.declared.Value.the-variants.{Origin, Duration, End, Set}
 use Rattle.plan.specs.Days.{day, daysOf, emptySpan, cutTo}
 use Rattle.plan.specs.Powers.{power}
 use Rattle.rules.specs.Calls.{rangesFit}
+use Rattle.stretches.specs.declared.Stretch.{Stretch}
 use Rattle.narrow.specs.declared.Days.{Days}
 use Rattle.narrow.specs.declared.Reach.{Reach}
+use Rattle.narrow.specs.Searches.{neededPart, Told, Least}
 
 -- a place of a set, and a task that has passed the entry checks
 pub record Ready (r : ℕ) (t : Task) : Type 0 where
@@ -58,6 +61,18 @@ withNeeds r s t =
       height = t .height;
     })
     t
+
+-- a test of days is that of needs: told by the stretches where the highest height is positive, else true of no day
+pub record NeedsTold (t : Task) (ss : List Stretch) (q : ℤ → Bool) : Type 0 where
+  pub told : ltZ (pos 0) (t .height .high .0) ≡ true → Told (neededPart (possibleDays t) (t .height .high)) ss q
+  pub none : ltZ (pos 0) (t .height .high .0) ≡ false → (i : ℤ) → q i ≡ true → ⊥
+
+-- the height is lifted to the highest less the least slack on the running days, which is not below 0 where there is no shortfall
+pub record Lifted (t : Task) (ss : List Stretch) (h : PowerSpan) : Type 0 where
+  pub slack : ℤ
+  pub least : Least ss (runningDays t) (t .height .high .0 -ℤ t .height .low .0) slack
+  pub low : h .low .0 ≡ t .height .high .0 -ℤ larger slack (pos 0)
+  pub high : h .high ≡ t .height .high
 
 -- ---- what is left: a range whose low end is above its high end is empty
 abbrev pub leftOf : Span → Left
