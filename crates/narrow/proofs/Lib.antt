@@ -11,3 +11,4 @@ pub mod Low
 pub mod Need
 pub mod Freed
 pub mod Page
+pub mod Fits

@@ -13,12 +13,14 @@ ghost use lib.ListN.{length};
 ghost use mir.Syntax.{w64};
 ghost use mir.Val.{SFits};
 ghost use Rattle.integers.specs.Tests.{and, any};
+ghost use Rattle.plan.specs.Powers.{power};
 ghost use Rattle.plan.specs.Sets.{has, only};
+ghost use Rattle.rules.specs.Calls.{rangesFit};
 ghost use Rattle.rules.specs.Step.{shortfall, listedDays, narrowed};
 ghost use Rattle.stretches.specs.View.{stretchesOf};
 ghost use Rattle.stretches.specs.Tells.{Ordered, Tells};
 ghost use Rattle.narrow.specs.Searches.{holds, partOf, barredPart, neededPart, Told, FirstFree, LastFree, Freed, Longest, Needed, Between, Least, Near, Dated, Placed, Short, Half, past, back, shorter, joined, lowered};
-ghost use Rattle.narrow.specs.Ready.{Ready, Among, possibleDays, runningDays, under, reachOf, withNeeds, finished, earlier, later};
+ghost use Rattle.narrow.specs.Ready.{Ready, Among, possibleDays, runningDays, under, reachOf, withNeeds, NeedsTold, Lifted, finished, earlier, later};
 use plan::Day;
 use plan::Power;
 use plan::Span;
@@ -343,4 +345,135 @@ pub fn needed_days(ss: &[[i64; 4]], w: Days, h: Power) -> Days
         k += 1;
     }
     r
+}
+
+// "possible if .. origin low <= i < end high"
+pub fn possible_days(t: Task) -> Days
+    ensures { λ r. ⌜ r ≡ possibleDays t ⌝ }
+{
+    let origin = t.origin;
+    let end = t.end;
+    let from = origin.low;
+    let to = end.high;
+    Days {
+        from: from,
+        to: to,
+    }
+}
+
+// "origin high <= i < end low"
+pub fn running_days(t: Task) -> Days
+    ensures { λ r. ⌜ r ≡ runningDays t ⌝ }
+{
+    let origin = t.origin;
+    let end = t.end;
+    let from = origin.high;
+    let to = end.low;
+    Days {
+        from: from,
+        to: to,
+    }
+}
+
+// A positive highest height is in the slack already; one that is not positive is not, where the task is not sure.
+pub fn under(t: Task) -> Power
+    requires { ⌜ rangesFit t ≡ true ⌝ }
+    ensures { λ r. ⌜ r ≡ power (under t) ⌝ }
+{
+    let height = t.height;
+    let high = height.high;
+    let zero = Power(0);
+    zero.larger(high.negated())
+}
+
+pub fn reach_of(t: Task) -> Reach
+    requires { ⌜ rangesFit t ≡ true ⌝ }
+    ensures { λ r. ⌜ r ≡ reachOf t ⌝ }
+{
+    Reach {
+        days: possible_days(t),
+        sure: running_days(t),
+        under: under(t),
+    }
+}
+
+// From the first day on which the task is needed to past the last.
+pub fn needs_of(ss: &[[i64; 4]], t: Task) -> Days
+    requires { ⌜ Dated (possibleDays t) ⌝ }
+    ensures { λ r. ⌜ Between (possibleDays t) r × ((q : ℤ → Bool) → NeedsTold t (stretchesOf (now (ss .entry))) q → Needed q (t .origin .low .0) (t .end .high .0) r) ⌝ }
+{
+    let height = t.height;
+    let high = height.high;
+    let zero = Power(0);
+    let w = possible_days(t);
+    if zero.below(high) {
+        return needed_days(ss, w, high);
+    }
+    let first = w.from;
+    let end = w.to;
+    Days {
+        from: end,
+        to: first,
+    }
+}
+
+// The needs of the days s joined: only the first and the last matter.
+pub fn with_needs(t: Task, r: u64, s: Days) -> Task
+    requires { ⌜ Ready r t × Between (possibleDays t) s ⌝ }
+    ensures { λ u. ⌜ u ≡ withNeeds r s t ⌝ }
+{
+    let first = s.from;
+    let past = s.to;
+    let origin = t.origin;
+    let duration = t.duration;
+    let end = t.end;
+    let height = t.height;
+    let longest = duration.high;
+    if first.before(end.high) {
+        return Task {
+            set: 1 << r,
+            origin: origin.cut_to(past.minus(longest), first),
+            duration: duration,
+            end: end.cut_to(past, first.plus(longest)),
+            height: height,
+        };
+    }
+    t
+}
+
+// "a task sure on i has height at least L - others": the highest height less the slack.
+pub fn lifted(ss: &[[i64; 4]], t: Task) -> PowerSpan
+    requires { ⌜ rangesFit t ≡ true ⌝ }
+    ensures { λ h. ⌜ Lifted t (stretchesOf (now (ss .entry))) h ⌝ }
+{
+    let height = t.height;
+    let low = height.low;
+    let high = height.high;
+    let slack = least_slack(ss, running_days(t), high.minus(low));
+    PowerSpan {
+        low: high.minus(slack.larger(Power(0))),
+        high: high,
+    }
+}
+
+// The task, or the first of its values of which nothing is left.
+pub fn finish(t: Task) -> Narrowed
+    ensures { λ r. ⌜ r ≡ finished t ⌝ }
+{
+    let origin = t.origin;
+    let duration = t.duration;
+    let end = t.end;
+    if origin.is_empty() {
+        return Narrowed::RanOut(Value::Origin);
+    }
+    if duration.is_empty() {
+        return Narrowed::RanOut(Value::Duration);
+    }
+    if end.is_empty() {
+        return Narrowed::RanOut(Value::End);
+    }
+    if t.set == 0 {
+        return Narrowed::RanOut(Value::Set);
+    }
+    Narrowed::Kept(t)
 }
