@@ -9,7 +9,7 @@ use Rattle.integers.proofs.Z.{z, +z, -z}
 use Rattle.plan.specs.declared.Day.{Day}
 use Rattle.plan.specs.declared.Span.{Span}
 use Rattle.plan.specs.Days.{day}
-use Rattle.narrow.specs.Searches.{Hit, FirstFree, LastFree, Freed, Near, Short}
+use Rattle.narrow.specs.Searches.{Hit, FirstFree, LastFree, Freed, Near, Close, Short}
 use Rattle.narrow.specs.Ready.{earlier, later}
 
 module _ (q : ℤ → Bool) (d : ℤ) (s : Span) where
@@ -76,8 +76,8 @@ freed-ends q d s o f =
     subst (λ (x : Span). Freed q d (earlier d s) x) e f
 
 -- an end less a number of days is a day
-pub fits-less : (d v : ℤ) → Short d → negsuc 109999 ≤ℤ v → v ≤ℤ pos 110000 → SFits w64 (v -ℤ d)
-fits-less d v h a b = omega (z, -z v d)
+pub fits-less : (d v : ℤ) → Short d → Close v → SFits w64 (v -ℤ d)
+fits-less d v h k = omega (z, -z v d)
 
-pub near-less : (d v : ℤ) → Short d → negsuc 109999 ≤ℤ v → v ≤ℤ pos 110000 → Near (v -ℤ d)
-near-less d v h a b = omega (z, -z v d)
+pub near-less : (d v : ℤ) → Short d → Close v → Near (v -ℤ d)
+near-less d v h k = omega (z, -z v d)

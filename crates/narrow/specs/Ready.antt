@@ -6,7 +6,7 @@ use Prim.Native.Nat.{ℕ, _<_, _^_}
 use lib.Dec.{eqb}
 use lib.IntN.{ℤ, pos, negℤ, _+ℤ_, _-ℤ_}
 use lib.Signed.{ltZ}
-use Rattle.integers.specs.Tests.{if}
+use Rattle.integers.specs.Tests.{if, any}
 use Rattle.integers.specs.Whole.{larger}
 use Rattle.integers.specs.Hull.{Left}
 use Rattle.integers.specs.Hull.Left.{Nothing, Some}
@@ -18,8 +18,11 @@ use Rattle.plan.specs.declared.Narrowed.the-variants.{Kept, RanOut}
 use Rattle.plan.specs.declared.Value.the-variants.{Origin, Duration, End, Set}
 use Rattle.plan.specs.Days.{day, daysOf, emptySpan, cutTo}
 use Rattle.plan.specs.Powers.{power}
+use Rattle.plan.specs.Sets.{without}
+use Rattle.rules.specs.Step.{shortfall, listedDays}
 use Rattle.rules.specs.Calls.{rangesFit}
 use Rattle.stretches.specs.declared.Stretch.{Stretch}
+use Rattle.stretches.specs.Tells.{Tells}
 use Rattle.narrow.specs.declared.Days.{Days}
 use Rattle.narrow.specs.declared.Reach.{Reach}
 use Rattle.narrow.specs.Searches.{neededPart, Told, Least}
@@ -33,6 +36,12 @@ pub record Ready (r : ℕ) (t : Task) : Type 0 where
 pub data Among (t : Task) : List Task → Type 0 where
   head : {ts : List Task} → Among t (t ∷ ts)
   tail : {u : Task} {ts : List Task} → Among t ts → Among t (u ∷ ts)
+
+-- what a caller knows of a profile and of the list that it was made from
+pub record Known (r : ℕ) (limit : ℤ → ℤ) (ts : List Task) (t : Task) (ss : List Stretch) : Type 0 where
+  pub tells : Tells r limit ts t ss
+  pub among : Among t ts
+  pub enough : any (shortfall r limit ts) (listedDays ts) ≡ false
 
 -- ---- a task as its searches see it
 abbrev pub possibleDays : Task → Days
@@ -73,6 +82,11 @@ pub record Lifted (t : Task) (ss : List Stretch) (h : PowerSpan) : Type 0 where
   pub least : Least ss (runningDays t) (t .height .high .0 -ℤ t .height .low .0) slack
   pub low : h .low .0 ≡ t .height .high .0 -ℤ larger slack (pos 0)
   pub high : h .high ≡ t .height .high
+
+-- "r leaves its set"
+abbrev pub withoutHere : ℕ → Task → Task
+withoutHere r t =
+    record { set = without (t .set) r; origin = t .origin; duration = t .duration; end = t .end; height = t .height }
 
 -- ---- what is left: a range whose low end is above its high end is empty
 abbrev pub leftOf : Span → Left

@@ -127,6 +127,10 @@ pub record Near (x : ℤ) : Type 0 where
   pub over : negsuc 199999 ≤ℤ x
   pub under : x ≤ℤ pos 200000
 
+pub record Close (x : ℤ) : Type 0 where
+  pub over : negsuc 109999 ≤ℤ x
+  pub under : x ≤ℤ pos 110000
+
 -- days in their ends, the first not past the last
 pub record Dated (w : Days) : Type 0 where
   pub floor : negsuc 99999 ≤ℤ w .from .0

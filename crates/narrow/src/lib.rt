@@ -19,8 +19,8 @@ ghost use Rattle.rules.specs.Calls.{rangesFit};
 ghost use Rattle.rules.specs.Step.{shortfall, listedDays, narrowed};
 ghost use Rattle.stretches.specs.View.{stretchesOf};
 ghost use Rattle.stretches.specs.Tells.{Ordered, Tells};
-ghost use Rattle.narrow.specs.Searches.{holds, partOf, barredPart, neededPart, Told, FirstFree, LastFree, Freed, Longest, Needed, Between, Least, Near, Dated, Placed, Short, Half, past, back, shorter, joined, lowered};
-ghost use Rattle.narrow.specs.Ready.{Ready, Among, possibleDays, runningDays, under, reachOf, withNeeds, NeedsTold, Lifted, finished, earlier, later};
+ghost use Rattle.narrow.specs.Searches.{holds, partOf, barredPart, neededPart, Told, FirstFree, LastFree, Freed, Longest, Needed, Between, Least, Near, Close, Dated, Placed, Short, Half, past, back, shorter, joined, lowered};
+ghost use Rattle.narrow.specs.Ready.{Ready, Among, Known, possibleDays, runningDays, under, reachOf, withNeeds, NeedsTold, Lifted, withoutHere, finished, earlier, later};
 use plan::Day;
 use plan::Power;
 use plan::Span;
@@ -267,7 +267,7 @@ pub fn free_span(ss: &[[i64; 4]], x: Reach, d: Day, s: Span) -> Span
 
 // What bars leave of a range of ends: an end less d days is an origin.
 pub fn free_ends(ss: &[[i64; 4]], x: Reach, d: Day, s: Span) -> Span
-    requires { ⌜ Dated (x .days) × Short (d .0) × (negsuc 109999 ≤ℤ s .low .0) × (s .low .0 ≤ℤ pos 110000) × (negsuc 109999 ≤ℤ s .high .0) × (s .high .0 ≤ℤ pos 110000) ⌝ }
+    requires { ⌜ Dated (x .days) × Short (d .0) × Close (s .low .0) × Close (s .high .0) ⌝ }
     ensures { λ r. ⌜ ((q : ℤ → Bool) → Told (barredPart x) (stretchesOf (now (ss .entry))) q → Ordered (stretchesOf (now (ss .entry))) → Freed q (d .0) (earlier (d .0) s) (earlier (d .0) r)) ⌝ }
 {
     let low = s.low;
@@ -476,4 +476,66 @@ pub fn finish(t: Task) -> Narrowed
         return Narrowed::RanOut(Value::Set);
     }
     Narrowed::Kept(t)
+}
+
+// A task that is only here.
+pub fn narrow_only(ss: &[[i64; 4]], t: Task, r: u64) -> Task
+    requires { ⌜ Ready r t × (t .origin .low .0 <ℤ t .end .high .0) ⌝ }
+    ensures { λ u. ⌜ ((limit : ℤ → ℤ) (ts : List Task) → Known r limit ts t (stretchesOf (now (ss .entry))) → only (t .set) r ≡ true → finished u ≡ narrowed r limit ts (listedDays ts) t) ⌝ }
+{
+    let x = reach_of(t);
+    let s = needs_of(ss, t);
+    let u = with_needs(t, r, s);
+    let duration = t.duration;
+    let least = duration.low;
+    let most = duration.high;
+    let origin = u.origin;
+    let end = u.end;
+    let o = free_span(ss, x, least, origin);
+    let e = free_ends(ss, x, least, end);
+    let d = Span {
+        low: least,
+        high: longest(ss, x, most),
+    };
+    let h = lifted(ss, t);
+    Task {
+        set: u.set,
+        origin: o,
+        duration: d,
+        end: e,
+        height: h,
+    }
+}
+
+// "r leaves its set"
+pub fn without_here(t: Task, r: u64) -> Task
+    requires { ⌜ r < 64 ⌝ }
+    ensures { λ u. ⌜ u ≡ withoutHere r t ⌝ }
+{
+    let origin = t.origin;
+    let duration = t.duration;
+    let end = t.end;
+    let height = t.height;
+    Task {
+        set: plan::without_resource(t.set, r),
+        origin: origin,
+        duration: duration,
+        end: end,
+        height: height,
+    }
+}
+
+// A task that may stand elsewhere too: bars take only this resource from it.
+pub fn narrow_shared(ss: &[[i64; 4]], t: Task, r: u64) -> Task
+    requires { ⌜ Ready r t × (t .origin .low .0 <ℤ t .end .high .0) ⌝ }
+    ensures { λ u. ⌜ ((limit : ℤ → ℤ) (ts : List Task) → Known r limit ts t (stretchesOf (now (ss .entry))) → only (t .set) r ≡ false → has (t .set) r ≡ true → finished u ≡ narrowed r limit ts (listedDays ts) t) ⌝ }
+{
+    let s = needs_of(ss, t);
+    let u = with_needs(t, r, s);
+    let b = under(t);
+    let x = least_slack(ss, running_days(t), b);
+    if x.below(b) {
+        return without_here(u, r);
+    }
+    u
 }
