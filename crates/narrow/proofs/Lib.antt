@@ -12,3 +12,4 @@ pub mod Need
 pub mod Freed
 pub mod Page
 pub mod Fits
+pub mod Window

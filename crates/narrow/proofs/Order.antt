@@ -16,7 +16,7 @@ use Rattle.narrow.specs.declared.Part.{Part}
 use Rattle.narrow.specs.declared.Reach.{Reach}
 use Rattle.narrow.specs.Searches.{barredPart}
 
-ordered-rest : (s : Stretch) (ss : List Stretch) → Ordered (s ∷ ss) → Ordered ss
+pub ordered-rest : (s : Stretch) (ss : List Stretch) → Ordered (s ∷ ss) → Ordered ss
 unfolding Ordered
 ordered-rest s [] h = tt
 ordered-rest s (u ∷ ss) h = h .2

@@ -2,7 +2,7 @@
 use mathlib.Core.Path.{_≡_}
 use mathlib.Core.Bool.{Bool, true, false, not}
 use mathlib.Core.List.{List}
-use Prim.Native.Nat.{ℕ, _<_}
+use Prim.Native.Nat.{ℕ, _≤_, _<_}
 use lib.IntN.{ℤ, pos, negsuc, _+ℤ_, _-ℤ_, predℤ}
 use lib.ListN.{length, getD}
 use lib.Signed.{_≤ℤ_, _<ℤ_, leZ, ltZ}
@@ -121,6 +121,11 @@ pub record Least (ss : List Stretch) (w : Days) (m x : ℤ) : Type 0 where
   pub most : x ≤ℤ m
   pub met : x <ℤ m → Slack ss w x
   pub under : (y : ℤ) → Slack ss w y → x ≤ℤ y
+
+-- ---- order: the first low stretches begin before day d, and those from high on do not
+pub record Begun (ss : List Stretch) (d : ℤ) (low high : ℕ) : Type 0 where
+  pub before : (k : ℕ) → k < low → k < length ss → (getD ss k noStretch) .from .0 <ℤ d
+  pub after : (k : ℕ) → high ≤ k → k < length ss → d ≤ℤ (getD ss k noStretch) .from .0
 
 -- ---- what the code asks and its leaves compute
 pub record Near (x : ℤ) : Type 0 where

@@ -5,7 +5,7 @@
 ghost use mathlib.Core.Path.{_≡_};
 ghost use mathlib.Core.Bool.{Bool, true, false, not};
 ghost use mathlib.Core.List.{List};
-ghost use Prim.Native.Nat.{ℕ, _<_};
+ghost use Prim.Native.Nat.{ℕ, _-_, _≤_, _<_};
 ghost use lib.IntN.{ℤ, pos, negsuc, _+ℤ_, _-ℤ_};
 ghost use lib.Signed.{ltZ, leZ, _≤ℤ_, _<ℤ_};
 ghost use lib.Dec.{eqb};
@@ -19,7 +19,7 @@ ghost use Rattle.rules.specs.Calls.{rangesFit};
 ghost use Rattle.rules.specs.Step.{shortfall, listedDays, narrowed};
 ghost use Rattle.stretches.specs.View.{stretchesOf};
 ghost use Rattle.stretches.specs.Tells.{Ordered, Tells};
-ghost use Rattle.narrow.specs.Searches.{holds, partOf, barredPart, neededPart, Told, FirstFree, LastFree, Freed, Longest, Needed, Between, Least, Near, Close, Dated, Placed, Short, Half, past, back, shorter, joined, lowered};
+ghost use Rattle.narrow.specs.Searches.{holds, partOf, barredPart, neededPart, Told, FirstFree, LastFree, Freed, Longest, Needed, Between, Least, Begun, Near, Close, Dated, Placed, Short, Half, past, back, shorter, joined, lowered};
 ghost use Rattle.narrow.specs.Ready.{Ready, Among, Known, possibleDays, runningDays, under, reachOf, withNeeds, NeedsTold, Lifted, withoutHere, finished, earlier, later};
 use plan::Day;
 use plan::Power;
@@ -538,4 +538,77 @@ pub fn narrow_shared(ss: &[[i64; 4]], t: Task, r: u64) -> Task
         return without_here(u, r);
     }
     u
+}
+
+// A task that may stand here and has a possible day.
+pub fn narrow_here(ss: &[[i64; 4]], t: Task, r: u64) -> Narrowed
+    requires { ⌜ Ready r t × (t .origin .low .0 <ℤ t .end .high .0) ⌝ }
+    ensures { λ out. ⌜ ((limit : ℤ → ℤ) (ts : List Task) → Known r limit ts t (stretchesOf (now (ss .entry))) → has (t .set) r ≡ true → out ≡ narrowed r limit ts (listedDays ts) t) ⌝ }
+{
+    if plan::only_resource(t.set, r) {
+        return finish(narrow_only(ss, t, r));
+    }
+    finish(narrow_shared(ss, t, r))
+}
+
+// How many stretches begin before day d.
+pub fn begun(ss: &[[i64; 4]], d: Day) -> usize
+    ensures { λ r. ⌜ (r ≤ length (now (ss .entry))) × (Ordered (stretchesOf (now (ss .entry))) → Begun (stretchesOf (now (ss .entry))) (d .0) r r) ⌝ }
+{
+    let mut low: usize = 0;
+    let mut high: usize = ss.len();
+    while low < high {
+        let mid = low + (high - low) / 2;
+        let s = stretches::stretch_at(ss, mid);
+        let from = s.from;
+        if from.before(d) {
+            low = mid + 1;
+        } else {
+            high = mid;
+        }
+    }
+    low
+}
+
+// Of so many, all but the last.
+pub fn but_last(n: usize) -> usize
+    ensures { λ r. ⌜ r ≡ n - 1 ⌝ }
+{
+    if 0 < n { n - 1 } else { 0 }
+}
+
+// The stretches that can meet the task's possible days: from the last that begins before them to the last that begins on one of them.
+pub fn narrow_window(ss: &[[i64; 4]], t: Task, r: u64) -> Narrowed
+    requires { ⌜ Ready r t × (t .origin .low .0 <ℤ t .end .high .0) ⌝ }
+    ensures { λ out. ⌜ ((limit : ℤ → ℤ) (ts : List Task) → Known r limit ts t (stretchesOf (now (ss .entry))) → has (t .set) r ≡ true → out ≡ narrowed r limit ts (listedDays ts) t) ⌝ }
+{
+    let w = possible_days(t);
+    let from = w.from;
+    let to = w.to;
+    let a = but_last(begun(ss, from));
+    let b = begun(ss, to);
+    if a < b {
+        narrow_here(&ss[a..b], t, r)
+    } else {
+        Narrowed::Kept(t)
+    }
+}
+
+// THE TASK AFTER THE STEP OF RESOURCE r, for every list of tasks and limit that the stretches tell of.
+pub fn narrow(ss: &[[i64; 4]], t: Task, r: u64) -> Narrowed
+    requires { ⌜ Ready r t ⌝ }
+    ensures { λ out. ⌜ ((limit : ℤ → ℤ) (ts : List Task) → Tells r limit ts t (stretchesOf (now (ss .entry))) → Among t ts → any (shortfall r limit ts) (listedDays ts) ≡ false → eqb (t .set) 0 ≡ false → out ≡ narrowed r limit ts (listedDays ts) t) ⌝ }
+{
+    let w = possible_days(t);
+    let from = w.from;
+    let to = w.to;
+    if from.before(to) {
+        if plan::has_resource(t.set, r) {
+            narrow_window(ss, t, r)
+        } else {
+            Narrowed::Kept(t)
+        }
+    } else {
+        Narrowed::Kept(t)
+    }
 }
