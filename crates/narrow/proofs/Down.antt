@@ -82,10 +82,10 @@ module _ (part : Stretch → Part) (ss : List Stretch) (q : ℤ → Bool) (told 
     more =
         if-case (λ x. PassedDown part ss q d b k x) (and (p .hit) behind) (p .from .0 -ℤ d) v
         (λ e.
-          let h = and-second (p .hit) behind e in
-          let x : ltZ (p .from .0) (p .to .0) ≡ true = and-first (ltZ (p .from .0) (p .to .0)) (ltZ (p .from .0) (v +ℤ d)) h in
-          let y : ltZ (p .from .0) (v +ℤ d) ≡ true = and-second (ltZ (p .from .0) (p .to .0)) (ltZ (p .from .0) (v +ℤ d)) h in
-          taken (and-first (p .hit) behind e) (omega z) (omega z))
+        let h = and-second (p .hit) behind e in
+        let x : ltZ (p .from .0) (p .to .0) ≡ true = and-first (ltZ (p .from .0) (p .to .0)) (ltZ (p .from .0) (v +ℤ d)) h in
+        let y : ltZ (p .from .0) (v +ℤ d) ≡ true = and-second (ltZ (p .from .0) (p .to .0)) (ltZ (p .from .0) (v +ℤ d)) h in
+        taken (and-first (p .hit) behind e) (omega z) (omega z))
         skipped
 
   -- ---- the ways out: k stretches are left
@@ -125,9 +125,9 @@ pub back-near : (p : Part) (d v : ℤ) → Placed p → Short d → Near v → N
 back-near p d v h k n =
     if-case Near (and (p .hit) (and (ltZ (p .from .0) (p .to .0)) (ltZ (p .from .0) (v +ℤ d)))) (p .from .0 -ℤ d) v
     (λ e.
-      let f = and-second (p .hit) (and (ltZ (p .from .0) (p .to .0)) (ltZ (p .from .0) (v +ℤ d))) e in
-      let g : ltZ (p .from .0) (v +ℤ d) ≡ true = and-second (ltZ (p .from .0) (p .to .0)) (ltZ (p .from .0) (v +ℤ d)) f in
-      omega (z, +z v d, -z (p .from .0) d))
+    let f = and-second (p .hit) (and (ltZ (p .from .0) (p .to .0)) (ltZ (p .from .0) (v +ℤ d))) e in
+    let g : ltZ (p .from .0) (v +ℤ d) ≡ true = and-second (ltZ (p .from .0) (p .to .0)) (ltZ (p .from .0) (v +ℤ d)) f in
+    omega (z, +z v d, -z (p .from .0) d))
     (λ e. n)
 
 pub fits-back : (p : Part) (d : ℤ) → Placed p → Short d → ltZ (p .from .0) (p .to .0) ≡ true → SFits w64 (p .from .0 -ℤ d)

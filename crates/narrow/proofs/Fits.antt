@@ -70,10 +70,10 @@ module _ (t : Task) (h : rangesFit t ≡ true) where
         let m = t .duration .high .0 in
         if-case Kept (ltZ (s .from .0) (t .end .high .0)) _ t
         (λ e.
-          record {
-            origin-low = omega (z, -z (s .to .0) m, maxz (t .origin .low .0) (s .to .0 -ℤ m));
-            origin-high = omega (z, minz (t .origin .high .0) (s .from .0));
-            end-low = omega (z, maxz (t .end .low .0) (s .to .0));
-            end-high = omega (z, +z (s .from .0) m, minz (t .end .high .0) (s .from .0 +ℤ m));
-          })
+        record {
+          origin-low = omega (z, -z (s .to .0) m, maxz (t .origin .low .0) (s .to .0 -ℤ m));
+          origin-high = omega (z, minz (t .origin .high .0) (s .from .0));
+          end-low = omega (z, maxz (t .end .low .0) (s .to .0));
+          end-high = omega (z, +z (s .from .0) m, minz (t .end .high .0) (s .from .0 +ℤ m));
+        })
         (λ e. record { origin-low = omega z; origin-high = omega z; end-low = omega z; end-high = omega z })

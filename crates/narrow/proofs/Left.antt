@@ -30,8 +30,8 @@ left-of p s out a b f g =
     by-cases (ltZ (out .high .0) (out .low .0))
     (λ e. rw e (left-none p s (λ v w. false-in (p v) (λ k. let h = g v w k in omega z))))
     (λ e.
-      let k = f (omega z) in
-      rw e (left-is p s (out .low .0) (out .high .0) (omega z) (omega z) (k .0) (k .1) g))
+    let k = f (omega z) in
+    rw e (left-is p s (out .low .0) (out .high .0) (omega z) (omega z) (k .0) (k .1) g))
 
 -- ---- needs: u has what every need leaves of t
 -- every day that passes n has v among d days up to it
@@ -187,11 +187,11 @@ module _ (r : ℕ) (limit : ℤ → ℤ) (ts : List Task) (t : Task) (k : In t t
           (implies-in (n i) (within x v) (λ e. let g = m i e in within-in x v (record { least = g .0; most = g .1 })))
           (implies-in (q i) (not (within y v))
           (λ e.
-            not-in (within y v)
-            (λ g.
-              let w = within-is y v g in
-              let w₁ : ((i -ℤ dl) +ℤ pos 1) ≤ℤ v = w .least in
-              f (record { day = i; late = w .most; early = omega (z, -z i dl, +z (i -ℤ dl) (pos 1), +z v dl); bad = e }))))
+          not-in (within y v)
+          (λ g.
+          let w = within-is y v g in
+          let w₁ : ((i -ℤ dl) +ℤ pos 1) ≤ℤ v = w .least in
+          f (record { day = i; late = w .most; early = omega (z, -z i dl, +z (i -ℤ dl) (pos 1), +z v dl); bad = e }))))
 
   pub left-origin : (u out : Span) → Cut n du (t .origin) u → Freed q dl u out → left (keepsOrigin r limit ts (listedDays ts) t) (daysOf (t .origin)) ≡ leftOf out
   left-origin u out c f =
@@ -200,13 +200,15 @@ module _ (r : ℕ) (limit : ℤ → ℤ) (ts : List Task) (t : Task) (k : In t t
       let f₁ = f .least in
       let f₂ = f .most in
       left-of (keepsOrigin r limit ts (listedDays ts) t) (daysOf (t .origin)) out (omega z) (omega z)
-      (λ e.
-        ( origin-kept (out .low .0) (c .meets (out .low .0) (omega z) (omega z)) (f .free-low e),
-          origin-kept (out .high .0) (c .meets (out .high .0) (omega z) (omega z)) (f .free-high e) ))
+      (λ e. (
+        origin-kept (out .low .0) (c .meets (out .low .0) (omega z) (omega z)) (f .free-low e),
+        origin-kept (out .high .0) (c .meets (out .high .0) (omega z) (omega z)) (f .free-high e),
+      ))
       (λ v w e.
-        let g = c .whole v (w .least) (w .most) (origin-meets v e) in
-        ( by-cases (ltZ v (out .low .0)) (λ h. absurd (origin-free v e (f .before v (g .0) (g .1) (omega z)))) (λ h. omega z),
-          by-cases (ltZ (out .high .0) v) (λ h. absurd (origin-free v e (f .after v (g .0) (g .1) (omega z)))) (λ h. omega z) ))
+      let g = c .whole v (w .least) (w .most) (origin-meets v e) in (
+        by-cases (ltZ v (out .low .0)) (λ h. absurd (origin-free v e (f .before v (g .0) (g .1) (omega z)))) (λ h. omega z),
+        by-cases (ltZ (out .high .0) v) (λ h. absurd (origin-free v e (f .after v (g .0) (g .1) (omega z)))) (λ h. omega z),
+      ))
 
   -- ---- ends: the same of an end less a duration
   abbrev endDay : ℤ → ℤ → Bool
@@ -252,16 +254,16 @@ module _ (r : ℕ) (limit : ℤ → ℤ) (ts : List Task) (t : Task) (k : In t t
           and-in (implies (n i) (within x v)) (implies (q i) (not (within y v)))
           (implies-in (n i) (within x v)
           (λ e.
-            let g = m i e in
-            within-in x v (record { least = omega (z, -z i du, +z (i -ℤ du) (pos 1), -z v du, +z i (pos 1)); most = omega (z, -z v du, +z i du) })))
+          let g = m i e in
+          within-in x v (record { least = omega (z, -z i du, +z (i -ℤ du) (pos 1), -z v du, +z i (pos 1)); most = omega (z, -z v du, +z i du) })))
           (implies-in (q i) (not (within y v))
           (λ e.
-            not-in (within y v)
-            (λ g.
-              let w = within-is y v g in
-              let w₁ : (i +ℤ pos 1) ≤ℤ v = w .least in
-              let w₂ : v ≤ℤ (i +ℤ dl) = w .most in
-              f (record { day = i; late = omega (z, -z v dl, +z i dl); early = omega (z, -z v dl, +z (v -ℤ dl) dl, +z i (pos 1)); bad = e }))))
+          not-in (within y v)
+          (λ g.
+          let w = within-is y v g in
+          let w₁ : (i +ℤ pos 1) ≤ℤ v = w .least in
+          let w₂ : v ≤ℤ (i +ℤ dl) = w .most in
+          f (record { day = i; late = omega (z, -z v dl, +z i dl); early = omega (z, -z v dl, +z (v -ℤ dl) dl, +z i (pos 1)); bad = e }))))
 
   pub left-end : (u out : Span) → Cut n du (earlier du (t .end)) (earlier du u) → Freed q dl (earlier dl u) (earlier dl out) → left (keepsEnd r limit ts (listedDays ts) t) (daysOf (t .end)) ≡ leftOf out
   left-end u out c f =
@@ -277,21 +279,23 @@ module _ (r : ℕ) (limit : ℤ → ℤ) (ts : List Task) (t : Task) (k : In t t
       (omega (z, -z a du, -z (u .low .0) du))
       (omega (z, -z b du, -z (u .high .0) du))
       (λ e.
-        let e₁ : (out .low .0 -ℤ dl) ≤ℤ (out .high .0 -ℤ dl) = omega (z, -z (out .low .0) dl, -z (out .high .0) dl) in
-        ( end-kept (out .low .0)
-          (c .meets (out .low .0 -ℤ du) (omega (z, -z (u .low .0) du, -z (out .low .0) du)) (omega (z, -z (u .high .0) du, -z (out .low .0) du)))
-          (f .free-low e₁),
-          end-kept (out .high .0)
-          (c .meets (out .high .0 -ℤ du) (omega (z, -z (u .low .0) du, -z (out .high .0) du)) (omega (z, -z (u .high .0) du, -z (out .high .0) du)))
-          (f .free-high e₁) ))
+      let e₁ : (out .low .0 -ℤ dl) ≤ℤ (out .high .0 -ℤ dl) = omega (z, -z (out .low .0) dl, -z (out .high .0) dl) in (
+        end-kept (out .low .0)
+            (c .meets (out .low .0 -ℤ du) (omega (z, -z (u .low .0) du, -z (out .low .0) du)) (omega (z, -z (u .high .0) du, -z (out .low .0) du)))
+            (f .free-low e₁),
+        end-kept (out .high .0)
+            (c .meets (out .high .0 -ℤ du) (omega (z, -z (u .low .0) du, -z (out .high .0) du)) (omega (z, -z (u .high .0) du, -z (out .high .0) du)))
+            (f .free-high e₁),
+      ))
       (λ v w e.
-        let w₁ : a ≤ℤ v = w .least in
-        let w₂ : v ≤ℤ b = w .most in
-        let g = c .whole (v -ℤ du) (omega (z, -z a du, -z v du)) (omega (z, -z b du, -z v du)) (end-meets v e) in
-        let h₁ : (u .low .0 -ℤ dl) ≤ℤ (v -ℤ dl) = let x : (u .low .0 -ℤ du) ≤ℤ (v -ℤ du) = g .0 in omega (z, -z (u .low .0) dl, -z v dl, -z (u .low .0) du, -z v du) in
-        let h₂ : (v -ℤ dl) ≤ℤ (u .high .0 -ℤ dl) = let x : (v -ℤ du) ≤ℤ (u .high .0 -ℤ du) = g .1 in omega (z, -z (u .high .0) dl, -z v dl, -z (u .high .0) du, -z v du) in
-        ( by-cases (ltZ v (out .low .0)) (λ h. absurd (end-free v e (f .before (v -ℤ dl) h₁ h₂ (omega (z, -z v dl, -z (out .low .0) dl))))) (λ h. omega z),
-          by-cases (ltZ (out .high .0) v) (λ h. absurd (end-free v e (f .after (v -ℤ dl) h₁ h₂ (omega (z, -z v dl, -z (out .high .0) dl))))) (λ h. omega z) ))
+      let w₁ : a ≤ℤ v = w .least in
+      let w₂ : v ≤ℤ b = w .most in
+      let g = c .whole (v -ℤ du) (omega (z, -z a du, -z v du)) (omega (z, -z b du, -z v du)) (end-meets v e) in
+      let h₁ : (u .low .0 -ℤ dl) ≤ℤ (v -ℤ dl) = let x : (u .low .0 -ℤ du) ≤ℤ (v -ℤ du) = g .0 in omega (z, -z (u .low .0) dl, -z v dl, -z (u .low .0) du, -z v du) in
+      let h₂ : (v -ℤ dl) ≤ℤ (u .high .0 -ℤ dl) = let x : (v -ℤ du) ≤ℤ (u .high .0 -ℤ du) = g .1 in omega (z, -z (u .high .0) dl, -z v dl, -z (u .high .0) du, -z v du) in (
+        by-cases (ltZ v (out .low .0)) (λ h. absurd (end-free v e (f .before (v -ℤ dl) h₁ h₂ (omega (z, -z v dl, -z (out .low .0) dl))))) (λ h. omega z),
+        by-cases (ltZ (out .high .0) v) (λ h. absurd (end-free v e (f .after (v -ℤ dl) h₁ h₂ (omega (z, -z v dl, -z (out .high .0) dl))))) (λ h. omega z),
+      ))
 
   -- ---- durations
   abbrev durationDay : ℤ → ℤ → Bool
@@ -302,8 +306,8 @@ module _ (r : ℕ) (limit : ℤ → ℤ) (ts : List Task) (t : Task) (k : In t t
   duration-kept v f =
       all-in (durationDay v) (listedDays ts)
       (λ i.
-        let x = room (t .origin .low .0) (t .end .high .0) i in
-        implies-in (q i) (leZ v x) (λ e. by-cases (leZ v x) (λ g. g) (λ g. absurd (f (record { day = i; bad = e; over = omega z })))))
+      let x = room (t .origin .low .0) (t .end .high .0) i in
+      implies-in (q i) (leZ v x) (λ e. by-cases (leZ v x) (λ g. g) (λ g. absurd (f (record { day = i; bad = e; over = omega z })))))
 
   duration-free : (v : ℤ) → keepsDuration r limit ts (listedDays ts) t v ≡ true → TooLong q (t .origin .low .0) (t .end .high .0) v → ⊥
   unfolding keepsDuration
@@ -319,11 +323,13 @@ module _ (r : ℕ) (limit : ℤ → ℤ) (ts : List Task) (t : Task) (k : In t t
   left-duration out a l =
       let l₁ = l .most in
       left-of (keepsDuration r limit ts (listedDays ts) t) (daysOf (t .duration)) out (omega z) (omega z)
-      (λ e.
-        ( duration-kept (out .low .0) (l .kept (out .low .0) (omega z)),
-          duration-kept (out .high .0) (l .kept (out .high .0) (omega z)) ))
+      (λ e. (
+        duration-kept (out .low .0) (l .kept (out .low .0) (omega z)),
+        duration-kept (out .high .0) (l .kept (out .high .0) (omega z)),
+      ))
       (λ v w e.
-        let w₁ : dl ≤ℤ v = w .least in
-        let w₂ : v ≤ℤ du = w .most in
-        ( omega z,
-          by-cases (ltZ (out .high .0) v) (λ h. absurd (duration-free v e (l .cut v (omega z) (omega z)))) (λ h. omega z) ))
+      let w₁ : dl ≤ℤ v = w .least in
+      let w₂ : v ≤ℤ du = w .most in (
+        omega z,
+        by-cases (ltZ (out .high .0) v) (λ h. absurd (duration-free v e (l .cut v (omega z) (omega z)))) (λ h. omega z),
+      ))

@@ -61,28 +61,28 @@ module _ (low high h : ℤ) (half : Half low high h) where
         let j = predℤ b in
         lt-cases c a
         (λ p.
-          record {
-            day = a;
-            late = omega z;
-            early = k;
-            tight = tight-at a m₂ (omega (z, -z high a, -z (high -ℤ a) (pos 1), -z a low, -z high low, +z h h, +z (h +ℤ h) (pos 1), +z low h));
-          })
+        record {
+          day = a;
+          late = omega z;
+          early = k;
+          tight = tight-at a m₂ (omega (z, -z high a, -z (high -ℤ a) (pos 1), -z a low, -z high low, +z h h, +z (h +ℤ h) (pos 1), +z low h));
+        })
         (λ p.
-          lt-cases c b
-          (λ d.
-            record {
-              day = c;
-              late = p;
-              early = d;
-              tight = tight-at c (omega (z, -z c low, +z low h)) (omega (z, -z high c, -z (high -ℤ c) (pos 1), +z low h, -z high low, +z h h, +z (h +ℤ h) (pos 1)));
-            })
-          (λ d.
-            record {
-              day = j;
-              late = omega (z, predz b);
-              early = omega (z, predz b);
-              tight = tight-at j (omega (z, -z j low, predz b, -z high b, +z low h, -z high low, +z h h, +z (h +ℤ h) (pos 1))) (omega (z, -z high j, predz b, -z (high -ℤ j) (pos 1), -z high b));
-            }))
+        lt-cases c b
+        (λ d.
+        record {
+          day = c;
+          late = p;
+          early = d;
+          tight = tight-at c (omega (z, -z c low, +z low h)) (omega (z, -z high c, -z (high -ℤ c) (pos 1), +z low h, -z high low, +z h h, +z (h +ℤ h) (pos 1)));
+        })
+        (λ d.
+        record {
+          day = j;
+          late = omega (z, predz b);
+          early = omega (z, predz b);
+          tight = tight-at j (omega (z, -z j low, predz b, -z high b, +z low h, -z high low, +z h h, +z (h +ℤ h) (pos 1))) (omega (z, -z high j, predz b, -z (high -ℤ j) (pos 1), -z high b));
+        }))
 
 -- ---- k stretches are passed
 pub record PassedLong (part : Stretch → Part) (ss : List Stretch) (q : ℤ → Bool) (w : Days) (m : ℤ) (k : ℕ) (r : ℤ) : Type 0 where
@@ -115,11 +115,11 @@ module _ (part : Stretch → Part) (ss : List Stretch) (q : ℤ → Bool) (told 
               λ v g n.
               lt-cases r v (λ c. done .cut v c n)
               (λ c.
-                record {
-                  day = x .day;
-                  bad = told .right k l (x .day) (subst (λ (u : Part). OnPart u (x .day)) is (record { hit = e; late = x .late; early = x .early }));
-                  over = omega (z, minz r y);
-                });
+              record {
+                day = x .day;
+                bad = told .right k l (x .day) (subst (λ (u : Part). OnPart u (x .day)) is (record { hit = e; late = x .late; early = x .early }));
+                over = omega (z, minz r y);
+              });
           passed =
               upto (smaller r y) (omega (z, minz r y))
               (λ i o. let c = misses (w .from .0) (w .to .0) h half (p .from .0) (p .to .0) i (o .late) (o .early) in omega (z, minz r y));
@@ -144,8 +144,8 @@ module _ (part : Stretch → Part) (ss : List Stretch) (q : ℤ → Bool) (told 
         if-case (λ x. PassedLong part ss q w m (k + 1) x) (and (p .hit) (ltZ (p .from .0) (p .to .0)))
         (smaller r (rest (w .from .0) (w .to .0) h (p .from .0) (p .to .0))) r
         (λ e.
-          let g : ltZ (p .from .0) (p .to .0) ≡ true = and-second (p .hit) (ltZ (p .from .0) (p .to .0)) e in
-          taken (and-first (p .hit) (ltZ (p .from .0) (p .to .0)) e) (omega z))
+        let g : ltZ (p .from .0) (p .to .0) ≡ true = and-second (p .hit) (ltZ (p .from .0) (p .to .0)) e in
+        taken (and-first (p .hit) (ltZ (p .from .0) (p .to .0)) e) (omega z))
         skipped
 
   pub end : (k : ℕ) (r : ℤ) → PassedLong part ss q w m k r → length ss ≤ k → Longest q (w .from .0) (w .to .0) m r

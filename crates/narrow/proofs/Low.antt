@@ -68,9 +68,9 @@ module _ (ss : List Stretch) (w : Days) (m : ℤ) where
         if-case (λ (y : Power). PassedLow ss w m (k + 1) (y .0)) (ltZ (larger (s .from .0) (w .from .0)) (smaller (s .to .0) (w .to .0)))
         (if (ltZ (s .slack .0) (x .0)) (s .slack) x) x
         (λ e.
-          if-case (λ (y : Power). PassedLow ss w m (k + 1) (y .0)) (ltZ (s .slack .0) (x .0)) (s .slack) x
-          (λ f. taken (omega z) (omega z))
-          (λ f. skipped (λ i a b. omega z)))
+        if-case (λ (y : Power). PassedLow ss w m (k + 1) (y .0)) (ltZ (s .slack .0) (x .0)) (s .slack) x
+        (λ f. taken (omega z) (omega z))
+        (λ f. skipped (λ i a b. omega z)))
         (λ e. skipped (λ i a b. absurd (no e i a b)))
       where
         no : ltZ (larger (s .from .0) (w .from .0)) (smaller (s .to .0) (w .to .0)) ≡ false → (i : ℤ) → holds w i ≡ true → onDay i s ≡ true → ⊥

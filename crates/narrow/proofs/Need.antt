@@ -35,17 +35,17 @@ between-more w u b s h =
     let y = smaller (u .to .0) (w .to .0) in
     if-case (λ (r : Days). Between w r) (and b (ltZ x y)) (record { from = record { 0 = smaller (s .from .0) x }; to = record { 0 = larger (s .to .0) y } }) s
     (λ e.
-      let f : ltZ x y ≡ true = and-second b (ltZ x y) e in
-      let h₁ = h .least in
-      let h₂ = h .most in
-      let h₃ = h .least-past in
-      let h₄ = h .most-past in
-      record {
-        least = omega (z, maxz (u .from .0) (w .from .0), minz (s .from .0) x);
-        most = omega (z, minz (s .from .0) x);
-        least-past = omega (z, maxz (s .to .0) y);
-        most-past = omega (z, minz (u .to .0) (w .to .0), maxz (s .to .0) y);
-      })
+    let f : ltZ x y ≡ true = and-second b (ltZ x y) e in
+    let h₁ = h .least in
+    let h₂ = h .most in
+    let h₃ = h .least-past in
+    let h₄ = h .most-past in
+    record {
+      least = omega (z, maxz (u .from .0) (w .from .0), minz (s .from .0) x);
+      most = omega (z, minz (s .from .0) x);
+      least-past = omega (z, maxz (s .to .0) y);
+      most-past = omega (z, minz (u .to .0) (w .to .0), maxz (s .to .0) y);
+    })
     (λ e. h)
 
 module _ (part : Stretch → Part) (ss : List Stretch) (q : ℤ → Bool) (told : Told part ss q) (w : Days) where
@@ -77,26 +77,26 @@ module _ (part : Stretch → Part) (ss : List Stretch) (q : ℤ → Bool) (told 
               λ h.
               lt-cases (s .from .0) (p .from .0)
               (λ c.
-                let g : s .from .0 ≡ x = omega (z, minz (s .from .0) (p .from .0)) in
-                subst (λ (i : ℤ). q i ≡ true) g (done .first (omega z)))
+              let g : s .from .0 ≡ x = omega (z, minz (s .from .0) (p .from .0)) in
+              subst (λ (i : ℤ). q i ≡ true) g (done .first (omega z)))
               (λ c.
-                let g : p .from .0 ≡ x = omega (z, minz (s .from .0) (p .from .0)) in
-                subst (λ (i : ℤ). q i ≡ true) g (bad (p .from .0) (record { hit = e; late = omega z; early = f })));
+              let g : p .from .0 ≡ x = omega (z, minz (s .from .0) (p .from .0)) in
+              subst (λ (i : ℤ). q i ≡ true) g (bad (p .from .0) (record { hit = e; late = omega z; early = f })));
           last =
               λ h.
               lt-cases (p .to .0) (s .to .0)
               (λ c.
-                let g : s .to .0 ≡ y = omega (z, maxz (s .to .0) (p .to .0)) in
-                subst (λ (i : ℤ). q (predℤ i) ≡ true) g (done .last (omega z)))
+              let g : s .to .0 ≡ y = omega (z, maxz (s .to .0) (p .to .0)) in
+              subst (λ (i : ℤ). q (predℤ i) ≡ true) g (done .last (omega z)))
               (λ c.
-                let g : p .to .0 ≡ y = omega (z, maxz (s .to .0) (p .to .0)) in
-                subst (λ (i : ℤ). q (predℤ i) ≡ true) g (bad (predℤ (p .to .0)) (record { hit = e; late = omega (z, predz (p .to .0)); early = omega (z, predz (p .to .0)) })));
+              let g : p .to .0 ≡ y = omega (z, maxz (s .to .0) (p .to .0)) in
+              subst (λ (i : ℤ). q (predℤ i) ≡ true) g (bad (predℤ (p .to .0)) (record { hit = e; late = omega (z, predz (p .to .0)); early = omega (z, predz (p .to .0)) })));
           passed =
               upto (record { from = record { 0 = x }; to = record { 0 = y } }) (omega (z, minz (s .from .0) (p .from .0))) (omega (z, maxz (s .to .0) (p .to .0)))
               (λ i o.
-                let a = o .late in
-                let b = o .early in
-                (omega (z, minz (s .from .0) (p .from .0)), omega (z, maxz (s .to .0) (p .to .0))));
+              let a = o .late in
+              let b = o .early in
+              (omega (z, minz (s .from .0) (p .from .0)), omega (z, maxz (s .to .0) (p .to .0))));
         }
 
     skipped : and (p .hit) (ltZ (p .from .0) (p .to .0)) ≡ false → PassedNeed part ss q w (k + 1) s
@@ -118,8 +118,8 @@ module _ (part : Stretch → Part) (ss : List Stretch) (q : ℤ → Bool) (told 
         if-case (λ (u : Days). PassedNeed part ss q w (k + 1) u) (and (p .hit) (ltZ (p .from .0) (p .to .0)))
         (record { from = record { 0 = smaller (s .from .0) (p .from .0) }; to = record { 0 = larger (s .to .0) (p .to .0) } }) s
         (λ e.
-          let g : ltZ (p .from .0) (p .to .0) ≡ true = and-second (p .hit) (ltZ (p .from .0) (p .to .0)) e in
-          taken (and-first (p .hit) (ltZ (p .from .0) (p .to .0)) e) (omega z))
+        let g : ltZ (p .from .0) (p .to .0) ≡ true = and-second (p .hit) (ltZ (p .from .0) (p .to .0)) e in
+        taken (and-first (p .hit) (ltZ (p .from .0) (p .to .0)) e) (omega z))
         skipped
 
   pub end : (k : ℕ) (s : Days) → PassedNeed part ss q w k s → length ss ≤ k → Needed q (w .from .0) (w .to .0) s

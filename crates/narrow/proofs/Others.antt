@@ -179,11 +179,11 @@ module _ (r : ℕ) (limit : ℤ → ℤ) (ts : List Task) (t : Task) (i : ℤ) w
       let p = hope r i t in
       by-cases (ltZ (pos 0) y)
       (λ e.
-        let k : p ≡ y = hope-high r i t e (b .possible) in
-        omega (z, +z (x -ℤ p) y, -z x p, -z x (limit i), maxz (pos 0) (negℤ y), ~z y))
+      let k : p ≡ y = hope-high r i t e (b .possible) in
+      omega (z, +z (x -ℤ p) y, -z x p, -z x (limit i), maxz (pos 0) (negℤ y), ~z y))
       (λ e.
-        let k : p ≡ pos 0 = hope-none r i t e n in
-        omega (z, +z (x -ℤ p) y, -z x p, -z x (limit i), maxz (pos 0) (negℤ y), ~z y))
+      let k : p ≡ pos 0 = hope-none r i t e n in
+      omega (z, +z (x -ℤ p) y, -z x p, -z x (limit i), maxz (pos 0) (negℤ y), ~z y))
 
   pub barred-in : possible r i t ≡ true → sure r i t ≡ false → slackOn r limit ts i <ℤ under t → barred r limit ts t i ≡ true
   unfolding slackOn others barred
@@ -194,11 +194,11 @@ module _ (r : ℕ) (limit : ℤ → ℤ) (ts : List Task) (t : Task) (i : ℤ) w
       and-in (possible r i t) (ltZ ((x -ℤ p) +ℤ y) (limit i)) q
       (by-cases (ltZ (pos 0) y)
       (λ e.
-        let k : p ≡ y = hope-high r i t e q in
-        ltZ-in ((x -ℤ p) +ℤ y) (limit i) (omega (z, +z (x -ℤ p) y, -z x p, -z x (limit i), maxz (pos 0) (negℤ y), ~z y)))
+      let k : p ≡ y = hope-high r i t e q in
+      ltZ-in ((x -ℤ p) +ℤ y) (limit i) (omega (z, +z (x -ℤ p) y, -z x p, -z x (limit i), maxz (pos 0) (negℤ y), ~z y)))
       (λ e.
-        let k : p ≡ pos 0 = hope-none r i t e n in
-        ltZ-in ((x -ℤ p) +ℤ y) (limit i) (omega (z, +z (x -ℤ p) y, -z x p, -z x (limit i), maxz (pos 0) (negℤ y), ~z y))))
+      let k : p ≡ pos 0 = hope-none r i t e n in
+      ltZ-in ((x -ℤ p) +ℤ y) (limit i) (omega (z, +z (x -ℤ p) y, -z x p, -z x (limit i), maxz (pos 0) (negℤ y), ~z y))))
 
   -- a sure day that is barred is short
   pub barred-sure : Fit t → sure r i t ≡ true → barred r limit ts t i ≡ true → total r ts i <ℤ limit i
@@ -249,10 +249,10 @@ module _ (r : ℕ) (limit : ℤ → ℤ) (ts : List Task) (t : Task) (i : ℤ) w
       let k : p ≡ y = hope-high r i t e q in
       by-cases (counts r ts i)
       (λ c.
-        let g : (x -ℤ limit i) <ℤ y = rw c at h in
-        and-in (counts r ts i) (and (possible r i t) (and (ltZ (pos 0) y) (ltZ (x -ℤ p) (limit i)))) c
-        (and-in (possible r i t) (and (ltZ (pos 0) y) (ltZ (x -ℤ p) (limit i))) q
-        (and-in (ltZ (pos 0) y) (ltZ (x -ℤ p) (limit i)) e (ltZ-in (x -ℤ p) (limit i) (omega (z, -z x p, -z x (limit i)))))))
+      let g : (x -ℤ limit i) <ℤ y = rw c at h in
+      and-in (counts r ts i) (and (possible r i t) (and (ltZ (pos 0) y) (ltZ (x -ℤ p) (limit i)))) c
+      (and-in (possible r i t) (and (ltZ (pos 0) y) (ltZ (x -ℤ p) (limit i))) q
+      (and-in (ltZ (pos 0) y) (ltZ (x -ℤ p) (limit i)) e (ltZ-in (x -ℤ p) (limit i) (omega (z, -z x p, -z x (limit i)))))))
       (λ c. let g : big <ℤ y = rw c at h in absurd (omega z))
 
   -- on a sure day the height rule asks for the highest height less the slack

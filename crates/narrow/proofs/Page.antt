@@ -108,9 +108,9 @@ still-page r limit ts t f e n =
     sym
     (narrowed-quiet r limit ts (listedDays ts) t
     (λ i.
-      record {
-        need = false-in (needed r limit ts t i) (λ h. n i (needed-is r limit ts t i h .possible));
-        bar = false-in (barred r limit ts t i) (λ h. n i (barred-is r limit ts t i h .possible));
-        height = λ s. absurd (n i (sure-possible r i t f s));
-      })
+    record {
+      need = false-in (needed r limit ts t i) (λ h. n i (needed-is r limit ts t i h .possible));
+      bar = false-in (barred r limit ts t i) (λ h. n i (barred-is r limit ts t i h .possible));
+      height = λ s. absurd (n i (sure-possible r i t f s));
+    })
     (live-fit t f e))

@@ -37,8 +37,8 @@ module _ {A : Type 0} (f : A → Bool) (d : A) where
   any-place (x ∷ xs) e =
       by-cases (f x) (λ p. record { at = 0; inside = suc-le-suc zero-le; holds = p })
       (λ p.
-        let r = any-place xs (sym (or-left (f x) (any f xs) p) ∙ e) in
-        record { at = suc (r .at); inside = suc-le-suc (r .inside); holds = r .holds })
+      let r = any-place xs (sym (or-left (f x) (any f xs) p) ∙ e) in
+      record { at = suc (r .at); inside = suc-le-suc (r .inside); holds = r .holds })
 
   pub any-at : (k : ℕ) (xs : List A) → k < length xs → f (getD xs k d) ≡ true → any f xs ≡ true
   any-at k [] h e = absurd (not-suc-le-zero h)
@@ -147,9 +147,9 @@ module _ (r : ℕ) (limit : ℤ → ℤ) (ts : List Task) (t : Task) (fit : Fit 
     unsure i e =
         false-in (sure r i t)
         (λ s.
-          let a = no-short r limit ts t fit k enough i s in
-          let b = barred-sure r limit ts t i fit s e in
-          omega z)
+        let a = no-short r limit ts t fit k enough i s in
+        let b = barred-sure r limit ts t i fit s e in
+        omega z)
 
     -- the first day of a stretch tells whether the task is sure on its other days
     from-sure : (j : ℕ) → j < length ss → (i : ℤ) → onDay i (getD ss j noStretch) ≡ true → holds (runningDays t) ((getD ss j noStretch) .from .0) ≡ running r i t

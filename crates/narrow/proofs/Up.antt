@@ -93,10 +93,10 @@ module _ (part : Stretch → Part) (ss : List Stretch) (q : ℤ → Bool) (told 
     more =
         if-case (λ x. Passed part ss q d a (k + 1) x) (and (p .hit) ahead) (p .to .0) v
         (λ e.
-          let h = and-second (p .hit) ahead e in
-          let x : ltZ (p .from .0) (p .to .0) ≡ true = and-first (ltZ (p .from .0) (p .to .0)) (ltZ v (p .to .0)) h in
-          let y : ltZ v (p .to .0) ≡ true = and-second (ltZ (p .from .0) (p .to .0)) (ltZ v (p .to .0)) h in
-          taken (and-first (p .hit) ahead e) (omega z) (omega z))
+        let h = and-second (p .hit) ahead e in
+        let x : ltZ (p .from .0) (p .to .0) ≡ true = and-first (ltZ (p .from .0) (p .to .0)) (ltZ v (p .to .0)) h in
+        let y : ltZ v (p .to .0) ≡ true = and-second (ltZ (p .from .0) (p .to .0)) (ltZ v (p .to .0)) h in
+        taken (and-first (p .hit) ahead e) (omega z) (omega z))
         skipped
 
   -- ---- the ways out
@@ -145,9 +145,9 @@ pub past-near : (p : Part) (v : ℤ) → Placed p → Near v → Near (past p v)
 past-near p v h n =
     if-case Near (and (p .hit) (and (ltZ (p .from .0) (p .to .0)) (ltZ v (p .to .0)))) (p .to .0) v
     (λ e.
-      let f = and-second (p .hit) (and (ltZ (p .from .0) (p .to .0)) (ltZ v (p .to .0))) e in
-      let g : ltZ v (p .to .0) ≡ true = and-second (ltZ (p .from .0) (p .to .0)) (ltZ v (p .to .0)) f in
-      omega z)
+    let f = and-second (p .hit) (and (ltZ (p .from .0) (p .to .0)) (ltZ v (p .to .0))) e in
+    let g : ltZ v (p .to .0) ≡ true = and-second (ltZ (p .from .0) (p .to .0)) (ltZ v (p .to .0)) f in
+    omega z)
     (λ e. n)
 
 pub fits-plus : (d v : ℤ) → Short d → Near v → SFits w64 (v +ℤ d)

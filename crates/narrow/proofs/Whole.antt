@@ -104,35 +104,35 @@ module _ (r : ℕ) (limit : ℤ → ℤ) (ts : List Task) (t : Task) (fit : Fit 
           let b = l .most in
           by-cases (ltZ x (top -ℤ t .height .low .0))
           (λ e.
-            let d = slack-day x (l .met (omega z)) in
-            let i = d .day in
-            let g = no-short r limit ts t fit k enough i (sure-in r i t alone (d .running)) in
-            let s : x ≡ total r ts i -ℤ limit i = d .slack in
-            omega (z, -z (total r ts i) (limit i)))
+          let d = slack-day x (l .met (omega z)) in
+          let i = d .day in
+          let g = no-short r limit ts t fit k enough i (sure-in r i t alone (d .running)) in
+          let s : x ≡ total r ts i -ℤ limit i = d .slack in
+          omega (z, -z (total r ts i) (limit i)))
           (λ e. omega (z, -z top (t .height .low .0)))
 
       lifts : (v : ℤ) → t .height .low .0 ≤ℤ v → (top -ℤ x) ≤ℤ v → keepsHeight r limit ts (listedDays ts) t v ≡ true
       lifts v a b =
           height-kept v
           (λ i s.
-            by-cases (any (onDay i) ss)
-            (λ h.
-              let p = l .under (slackOn r limit ts i) (day-slack i (sure-running r i t s) (any-place (onDay i) noStretch ss h)) in
-              let e = lifted-is r limit ts t i fit s in
-              omega (z, -z top x, -z top (slackOn r limit ts i)))
-            (λ h. let e = tells .quiet i h .unlifted s in omega z))
+          by-cases (any (onDay i) ss)
+          (λ h.
+          let p = l .under (slackOn r limit ts i) (day-slack i (sure-running r i t s) (any-place (onDay i) noStretch ss h)) in
+          let e = lifted-is r limit ts t i fit s in
+          omega (z, -z top x, -z top (slackOn r limit ts i)))
+          (λ h. let e = tells .quiet i h .unlifted s in omega z))
 
       lifted-out : (v : ℤ) → t .height .low .0 ≤ℤ v → keepsHeight r limit ts (listedDays ts) t v ≡ true → (top -ℤ x) ≤ℤ v
       lifted-out v a h =
           by-cases (ltZ x (top -ℤ t .height .low .0))
           (λ e.
-            let d = slack-day x (l .met (omega z)) in
-            let i = d .day in
-            let s = sure-in r i t alone (d .running) in
-            let g = height-out v h i s in
-            let f = lifted-is r limit ts t i fit s in
-            let y = d .slack in
-            omega (z, -z top x, -z top (slackOn r limit ts i)))
+          let d = slack-day x (l .met (omega z)) in
+          let i = d .day in
+          let s = sure-in r i t alone (d .running) in
+          let g = height-out v h i s in
+          let f = lifted-is r limit ts t i fit s in
+          let y = d .slack in
+          omega (z, -z top x, -z top (slackOn r limit ts i)))
           (λ e. let b = l .most in omega (z, -z top x, -z top (t .height .low .0)))
 
       pub height-lifted : left (keepsHeight r limit ts (listedDays ts) t) (powersOf (t .height)) ≡ Some (range (top -ℤ x) top)
@@ -153,17 +153,17 @@ module _ (r : ℕ) (limit : ℤ → ℤ) (ts : List Task) (t : Task) (fit : Fit 
     set-needed s h =
         by-cases (ltZ (s .from .0) (t .end .high .0))
         (λ e.
-          let f = h .first (omega z) in
-          rw (e, listed-any (needed r limit ts t) (s .from .0) (needed-is r limit ts t (s .from .0) f .possible) f))
+        let f = h .first (omega z) in
+        rw (e, listed-any (needed r limit ts t) (s .from .0) (needed-is r limit ts t (s .from .0) f .possible) f))
         (λ e.
-          rw (
-            e,
-            any-none (needed r limit ts t) (listedDays ts)
-            (λ i f.
+        rw (
+          e,
+          any-none (needed r limit ts t) (listedDays ts)
+              (λ i f.
               let a = h .between i f in
               let b = possible-out r i t (needed-is r limit ts t i f .possible) in
-              omega z)
-          ))
+              omega z),
+        ))
 
     -- r leaves the set if a day on which it is running is barred to it
     pub set-kept : only (t .set) r ≡ false → has (t .set) r ≡ true → (x : ℤ) → Least ss (runningDays t) (under t) x → keptSet r limit ts (listedDays ts) t ≡ if (ltZ x (under t)) (without (neededSet r limit ts (listedDays ts) t) r) (neededSet r limit ts (listedDays ts) t)
@@ -173,34 +173,34 @@ module _ (r : ℕ) (limit : ℤ → ℤ) (ts : List Task) (t : Task) (fit : Fit 
         let free : (i : ℤ) → sure r i t ≡ false = λ i. false-in (sure r i t) (λ s. clash (only (t .set) r) (sure-only r i t s) n) in
         by-cases (ltZ x (under t))
         (λ e.
-          let d = slack-day x (l .met (omega z)) in
-          let i = d .day in
-          let g = running-possible r i t fit m (d .running) in
-          let y = d .slack in
-          let b = barred-in r limit ts t i g (free i) (omega z) in
-          rw (e, listed-any p i g (and-in (barred r limit ts t i) (running r i t) b (d .running))))
+        let d = slack-day x (l .met (omega z)) in
+        let i = d .day in
+        let g = running-possible r i t fit m (d .running) in
+        let y = d .slack in
+        let b = barred-in r limit ts t i g (free i) (omega z) in
+        rw (e, listed-any p i g (and-in (barred r limit ts t i) (running r i t) b (d .running))))
         (λ e.
-          rw (
-            e,
-            any-none p (listedDays ts)
-            (λ i f.
+        rw (
+          e,
+          any-none p (listedDays ts)
+              (λ i f.
               let b = and-first (barred r limit ts t i) (running r i t) f in
               let a = and-second (barred r limit ts t i) (running r i t) f in
               let c = l .under (slackOn r limit ts i) (day-slack i a (barred-place r limit ts t fit ss tells i b)) in
               let d = barred-out r limit ts t i (free i) b in
-              omega z)
-          ))
+              omega z),
+        ))
 
     -- a task that is only here keeps r: a barred day is none of its sure days
     pub set-same : only (t .set) r ≡ true → any (shortfall r limit ts) (listedDays ts) ≡ false → keptSet r limit ts (listedDays ts) t ≡ neededSet r limit ts (listedDays ts) t
     unfolding keptSet
     set-same alone enough =
         rw (
-          any-none (λ i. and (barred r limit ts t i) (running r i t)) (listedDays ts)
-          (λ i f.
-            let b = and-first (barred r limit ts t i) (running r i t) f in
-            let a = and-second (barred r limit ts t i) (running r i t) f in
-            clash (sure r i t) (sure-in r i t alone a) (unsure r limit ts t fit ss tells alone k enough i b))
+        any-none (λ i. and (barred r limit ts t i) (running r i t)) (listedDays ts)
+        (λ i f.
+        let b = and-first (barred r limit ts t i) (running r i t) f in
+        let a = and-second (barred r limit ts t i) (running r i t) f in
+        clash (sure r i t) (sure-in r i t alone a) (unsure r limit ts t fit ss tells alone k enough i b))
         )
 
 -- ---- THE PAGE'S TASK
@@ -218,8 +218,8 @@ unfolding finished
 together u =
     by-cases (emptySpan (u .origin)) (λ a. rw a)
     (λ a.
-      by-cases (emptySpan (u .duration)) (λ b. rw (a, b))
-      (λ b. by-cases (emptySpan (u .end)) (λ c. rw (a, b, c)) (λ c. rw (a, b, c))))
+    by-cases (emptySpan (u .duration)) (λ b. rw (a, b))
+    (λ b. by-cases (emptySpan (u .end)) (λ c. rw (a, b, c)) (λ c. rw (a, b, c))))
 
 pub narrowed-is : (r : ℕ) (limit : ℤ → ℤ) (ts : List Task) (t u : Task) → left (keepsOrigin r limit ts (listedDays ts) t) (daysOf (t .origin)) ≡ leftOf (u .origin) → left (keepsDuration r limit ts (listedDays ts) t) (daysOf (t .duration)) ≡ leftOf (u .duration) → left (keepsEnd r limit ts (listedDays ts) t) (daysOf (t .end)) ≡ leftOf (u .end) → left (keepsHeight r limit ts (listedDays ts) t) (powersOf (t .height)) ≡ Some (powersOf (u .height)) → keptSet r limit ts (listedDays ts) t ≡ u .set → finished u ≡ narrowed r limit ts (listedDays ts) t
 unfolding narrowed

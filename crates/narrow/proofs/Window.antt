@@ -87,23 +87,23 @@ module _ (r : ℕ) (limit : ℤ → ℤ) (ts : List Task) (t : Task) (fit : Fit 
         quiet i h =
             by-cases (any (onDay i) ss)
             (λ g.
-              let p = any-place (onDay i) noStretch ss g in
-              quiet-off i (off (p .at) (p .inside) (between (p .at) (p .inside) (p .holds)) i (p .holds)))
+            let p = any-place (onDay i) noStretch ss g in
+            quiet-off i (off (p .at) (p .inside) (between (p .at) (p .inside) (p .holds)) i (p .holds)))
             (λ g. tells .quiet i g)
           where
             between : (k : ℕ) → k < length ss → onDay i (getD ss k noStretch) ≡ true → (k < a → ⊥) → (b ≤ k → ⊥) → ⊥
             between k l o x y =
                 below-cases k a x
                 (λ c.
-                  below-cases k b
-                  (λ d.
-                    let e : a + (k - a) ≡ k = omega arith in
-                    let j : k - a < length (take (b - a) (drop a ss)) = omega (arith, size) in
-                    clash (any (onDay i) (take (b - a) (drop a ss)))
-                    (any-at (onDay i) noStretch (k - a) (take (b - a) (drop a ss)) j
-                    (subst (λ (s : Stretch). onDay i s ≡ true) (sym (same (k - a) j ∙ ap (λ (n : ℕ). getD ss n noStretch) e)) o))
-                    h)
-                  y)
+                below-cases k b
+                (λ d.
+                let e : a + (k - a) ≡ k = omega arith in
+                let j : k - a < length (take (b - a) (drop a ss)) = omega (arith, size) in
+                clash (any (onDay i) (take (b - a) (drop a ss)))
+                (any-at (onDay i) noStretch (k - a) (take (b - a) (drop a ss)) j
+                (subst (λ (s : Stretch). onDay i s ≡ true) (sym (same (k - a) j ∙ ap (λ (n : ℕ). getD ss n noStretch) e)) o))
+                h)
+                y)
 
     -- no stretch is left: no rule touches the task
     pub none-page : b ≤ a → eqb (t .set) 0 ≡ false → Kept t ≡ narrowed r limit ts (listedDays ts) t
@@ -117,8 +117,8 @@ module _ (r : ℕ) (limit : ℤ → ℤ) (ts : List Task) (t : Task) (fit : Fit 
         all-quiet i =
             by-cases (any (onDay i) ss)
             (λ g.
-              let p = any-place (onDay i) noStretch ss g in
-              quiet-off i (off (p .at) (p .inside) (λ x y. below-cases (p .at) a x (λ c. y (omega arith))) i (p .holds)))
+            let p = any-place (onDay i) noStretch ss g in
+            quiet-off i (off (p .at) (p .inside) (λ x y. below-cases (p .at) a x (λ c. y (omega arith))) i (p .holds)))
             (λ g. tells .quiet i g)
 
 -- ---- how many stretches begin before a day, by halves

@@ -22,12 +22,12 @@ ghost use Rattle.stretches.specs.Tells.{Ordered, Tells};
 ghost use Rattle.narrow.specs.Searches.{holds, partOf, barredPart, neededPart, Told, FirstFree, LastFree, Freed, Longest, Needed, Between, Least, Begun, Near, Close, Dated, Placed, Short, Half, past, back, shorter, joined, lowered};
 ghost use Rattle.narrow.specs.Ready.{Ready, Among, Known, possibleDays, runningDays, under, reachOf, withNeeds, NeedsTold, Lifted, withoutHere, finished, earlier, later};
 use plan::Day;
+use plan::Narrowed;
 use plan::Power;
-use plan::Span;
 use plan::PowerSpan;
+use plan::Span;
 use plan::Task;
 use plan::Value;
-use plan::Narrowed;
 use stretches::Stretch;
 
 // The days from .. to - 1.
@@ -72,7 +72,11 @@ impl Reach {
         ensures { λ r. ⌜ r ≡ and (ltZ (slack .0) (self .under .0)) (not (holds (self .sure) (from .0))) ⌝ }
     {
         let sure = self.sure;
-        if slack.below(self.under) { !sure.holds(from) } else { false }
+        if slack.below(self.under) {
+            !sure.holds(from)
+        } else {
+            false
+        }
     }
 
     pub fn barred(self, s: Stretch) -> Part
@@ -118,7 +122,11 @@ impl Part {
         let to = self.to;
         if self.hit {
             if from.before(to) {
-                if from.before(v.plus(d)) { from.minus(d) } else { v }
+                if from.before(v.plus(d)) {
+                    from.minus(d)
+                } else {
+                    v
+                }
             } else {
                 v
             }
@@ -355,10 +363,7 @@ pub fn possible_days(t: Task) -> Days
     let end = t.end;
     let from = origin.low;
     let to = end.high;
-    Days {
-        from: from,
-        to: to,
-    }
+    Days { from: from, to: to }
 }
 
 // "origin high <= i < end low"
@@ -369,10 +374,7 @@ pub fn running_days(t: Task) -> Days
     let end = t.end;
     let from = origin.high;
     let to = end.low;
-    Days {
-        from: from,
-        to: to,
-    }
+    Days { from: from, to: to }
 }
 
 // A positive highest height is in the slack already; one that is not positive is not, where the task is not sure.

@@ -154,7 +154,11 @@ impl Power {
     pub fn fits(self) -> bool
         ensures { λ r. ⌜ r ≡ powerFits self ⌝ }
     {
-        if Power::lowest().up_to(self) { self.up_to(Power::highest()) } else { false }
+        if Power::lowest().up_to(self) {
+            self.up_to(Power::highest())
+        } else {
+            false
+        }
     }
 }
 
@@ -208,7 +212,11 @@ impl Span {
         let low = self.low;
         let high = self.high;
         if least.until(low) {
-            if low.until(high) { high.until(most) } else { false }
+            if low.until(high) {
+                high.until(most)
+            } else {
+                false
+            }
         } else {
             false
         }
@@ -247,7 +255,11 @@ impl PowerSpan {
         let low = self.low;
         let high = self.high;
         if Power::lowest().up_to(low) {
-            if low.up_to(high) { high.up_to(Power::highest()) } else { false }
+            if low.up_to(high) {
+                high.up_to(Power::highest())
+            } else {
+                false
+            }
         } else {
             false
         }
@@ -386,5 +398,9 @@ pub fn without_resource(set: u64, k: u64) -> u64
     requires { ⌜ k < 64 ⌝ }
     ensures { λ r. ⌜ r ≡ without set k ⌝ }
 {
-    if has_resource(set, k) { set - (1 << k) } else { set }
+    if has_resource(set, k) {
+        set - (1 << k)
+    } else {
+        set
+    }
 }

@@ -52,11 +52,12 @@ loop-again c =
     let a = b .before in
     let ss = stretchesOf (a .args .ss .now) in
     let mid = b .loop .low + (b .loop .high - b .loop .low) / 2 in
-    let e : ltZ ((getD ss mid noStretch) .from .0) (a .args .d .0) ≡ true = sym (test (c .before)) ∙ c .if1 .taken in
-    ( omega arith,
+    let e : ltZ ((getD ss mid noStretch) .from .0) (a .args .d .0) ≡ true = sym (test (c .before)) ∙ c .if1 .taken in (
+      omega arith,
       omega arith,
       λ o.
-      begun-low ss (a .args .d .0) o (b .loop .low) (b .loop .high) mid (b .loop .inv .2 o) (omega (arith, length-stretches (a .args .ss .now))) (omega z) )
+          begun-low ss (a .args .d .0) o (b .loop .low) (b .loop .high) mid (b .loop .inv .2 o) (omega (arith, length-stretches (a .args .ss .now))) (omega z),
+    )
 
 loop-less-2 : tie.Need-loop-less-2 Inv-loop μ-loop
 loop-less-2 c = omega arith
@@ -67,11 +68,12 @@ loop-again-2 c =
     let a = b .before in
     let ss = stretchesOf (a .args .ss .now) in
     let mid = b .loop .low + (b .loop .high - b .loop .low) / 2 in
-    let e : ltZ ((getD ss mid noStretch) .from .0) (a .args .d .0) ≡ false = sym (test (c .before)) ∙ c .if1 .left in
-    ( omega arith,
+    let e : ltZ ((getD ss mid noStretch) .from .0) (a .args .d .0) ≡ false = sym (test (c .before)) ∙ c .if1 .left in (
+      omega arith,
       omega arith,
       λ o.
-      begun-high ss (a .args .d .0) o (b .loop .low) (b .loop .high) mid (b .loop .inv .2 o) (omega (arith, length-stretches (a .args .ss .now))) (omega z) )
+          begun-high ss (a .args .d .0) o (b .loop .low) (b .loop .high) mid (b .loop .inv .2 o) (omega (arith, length-stretches (a .args .ss .now))) (omega z),
+    )
 
 returns : tie.Need-returns Inv-loop μ-loop
 returns c =

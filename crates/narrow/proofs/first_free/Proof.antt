@@ -65,11 +65,12 @@ returns c =
     let d = u .before .before .before in
     let b = d .before .before .before in
     let a = b .before in
-    let e : leZ (b .loop .v .0 +ℤ a .args .d .0) (d .barred .result .from .0) ≡ true = sym (after u) ∙ c .if1 .taken in
-    ( b .loop .inv .1,
+    let e : leZ (b .loop .v .0 +ℤ a .args .d .0) (d .barred .result .from .0) ≡ true = sym (after u) ∙ c .if1 .taken in (
+      b .loop .inv .1,
       λ q h o.
-      stopped (barredPart (a .args .x)) (list d) q h (a .args .d .0) (a .args .low .0) (b .loop .k) (b .loop .v .0) (b .loop .inv .2 q h)
-      (bars-rise (a .args .x) (list d) o) (inside d) (d .barred .result) (here d) (omega z) )
+          stopped (barredPart (a .args .x)) (list d) q h (a .args .d .0) (a .args .low .0) (b .loop .k) (b .loop .v .0) (b .loop .inv .2 q h)
+          (bars-rise (a .args .x) (list d) o) (inside d) (d .barred .result) (here d) (omega z),
+    )
 
 past-requires : tie.Need-past-requires Inv-loop μ-loop
 past-requires c κs = search needs
@@ -88,20 +89,22 @@ loop-again c =
     let a = b .before in
     let e : leZ (b .loop .v .0 +ℤ a .args .d .0) (d .barred .result .from .0) ≡ false = sym (after u) ∙ c .before .if1 .left in
     let n = past-near (d .barred .result) (b .loop .v .0) (barred-placed (a .args .x) (getD (list d) (b .loop .k) noStretch) (d .barred .result) (here d) (a .pre .0)) (b .loop .inv .1) in
-    let near : d .barred .result .from .0 <ℤ (b .loop .v .0 +ℤ a .args .d .0) = omega z in
-    ( omega arith,
+    let near : d .barred .result .from .0 <ℤ (b .loop .v .0 +ℤ a .args .d .0) = omega z in (
+      omega arith,
       rw (c .past .ensures) n,
       λ q h.
-      rw (c .past .ensures)
-      (more (barredPart (a .args .x)) (list d) q h (a .args .d .0) (a .args .low .0) (b .loop .k) (b .loop .v .0) (d .barred .result) (here d) (b .loop .inv .2 q h) (inside d) (a .pre .2) near) )
+          rw (c .past .ensures)
+          (more (barredPart (a .args .x)) (list d) q h (a .args .d .0) (a .args .low .0) (b .loop .k) (b .loop .v .0) (d .barred .result) (here d) (b .loop .inv .2 q h) (inside d) (a .pre .2) near),
+    )
 
 returns-2 : tie.Need-returns-2 Inv-loop μ-loop
 returns-2 c =
     let b = c .before in
-    let a = b .before in
-    ( b .loop .inv .1,
+    let a = b .before in (
+      b .loop .inv .1,
       λ q h o.
-      end (barredPart (a .args .x)) (stretchesOf (a .args .ss .now)) q h (a .args .d .0) (a .args .low .0) (b .loop .k) (b .loop .v .0) (b .loop .inv .2 q h) (omega (arith, length-stretches (a .args .ss .now))) )
+          end (barredPart (a .args .x)) (stretchesOf (a .args .ss .now)) q h (a .args .d .0) (a .args .low .0) (b .loop .k) (b .loop .v .0) (b .loop .inv .2 q h) (omega (arith, length-stretches (a .args .ss .now))),
+    )
 
 pub first-free-spec : {M : Type 1} → statement M
 first-free-spec =

@@ -19,11 +19,12 @@ minus-requires-2 c κs = let a = c .before .before .before in fits-less (a .args
 
 free-span-requires : tie.Need-free-span-requires
 free-span-requires c κs =
-    let a = c .before .before .before .before in
-    ( a .pre .0,
+    let a = c .before .before .before .before in (
+      a .pre .0,
       a .pre .1,
       subst (λ (u : Day). Near (u .0)) (sym (c .before .minus .ensures)) (near-less (a .args .d .0) (a .args .s .low .0) (a .pre .1) (a .pre .2)),
-      subst (λ (u : Day). Near (u .0)) (sym (c .minus2 .ensures)) (near-less (a .args .d .0) (a .args .s .high .0) (a .pre .1) (a .pre .3)) )
+      subst (λ (u : Day). Near (u .0)) (sym (c .minus2 .ensures)) (near-less (a .args .d .0) (a .args .s .high .0) (a .pre .1) (a .pre .3)),
+    )
 
 plus-requires : tie.Need-plus-requires
 plus-requires c κs =

@@ -53,9 +53,10 @@ returns-3 : tie.Need-returns-3
 returns-3 c =
     let f = c .before .before .before .first-free in
     let l = c .last-free in
-    let a = c .before .before .before .before .before .before .before .before .before in
-    ( (f .ensures .0, l .ensures .0),
-      λ q h o. freed-both q (a .args .d .0) (a .args .s) (f .result) (f .ensures .1 q h o) (l .result) (l .ensures .1 q h o) )
+    let a = c .before .before .before .before .before .before .before .before .before in (
+      (f .ensures .0, l .ensures .0),
+      λ q h o. freed-both q (a .args .d .0) (a .args .s) (f .result) (f .ensures .1 q h o) (l .result) (l .ensures .1 q h o),
+    )
 
 pub free-span-spec : {M : Type 1} → statement M
 free-span-spec =

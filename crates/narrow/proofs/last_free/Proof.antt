@@ -66,11 +66,12 @@ returns c =
     let d = u .before .before in
     let b = d .before .before .before in
     let a = b .before in
-    let e : leZ (d .barred .result .to .0) (b .loop .v .0) ≡ true = sym (u .until .ensures) ∙ c .if1 .taken in
-    ( b .loop .inv .1,
+    let e : leZ (d .barred .result .to .0) (b .loop .v .0) ≡ true = sym (u .until .ensures) ∙ c .if1 .taken in (
+      b .loop .inv .1,
       λ q h o.
-      stopped (barredPart (a .args .x)) (list d) q h (a .args .d .0) (a .args .high .0) (b .loop .k - 1) (b .loop .v .0) (passed d q h)
-      (bars-rise (a .args .x) (list d) o) (inside d) (d .barred .result) (here d) (omega z) )
+          stopped (barredPart (a .args .x)) (list d) q h (a .args .d .0) (a .args .high .0) (b .loop .k - 1) (b .loop .v .0) (passed d q h)
+          (bars-rise (a .args .x) (list d) o) (inside d) (d .barred .result) (here d) (omega z),
+    )
 
 back-requires : tie.Need-back-requires Inv-loop μ-loop
 back-requires c κs =
@@ -93,22 +94,24 @@ loop-again c =
     let a = b .before in
     let e : leZ (d .barred .result .to .0) (b .loop .v .0) ≡ false = sym (u .until .ensures) ∙ c .before .if1 .left in
     let n =
-      back-near (d .barred .result) (a .args .d .0) (b .loop .v .0)
-      (barred-placed (a .args .x) (getD (list d) (b .loop .k - 1) noStretch) (d .barred .result) (here d) (a .pre .0)) (a .pre .1) (b .loop .inv .1) in
-    let near : b .loop .v .0 <ℤ d .barred .result .to .0 = omega z in
-    ( omega arith,
+    back-near (d .barred .result) (a .args .d .0) (b .loop .v .0)
+    (barred-placed (a .args .x) (getD (list d) (b .loop .k - 1) noStretch) (d .barred .result) (here d) (a .pre .0)) (a .pre .1) (b .loop .inv .1) in
+    let near : b .loop .v .0 <ℤ d .barred .result .to .0 = omega z in (
+      omega arith,
       rw (c .back .ensures) n,
       λ q h.
-      rw (c .back .ensures)
-      (more (barredPart (a .args .x)) (list d) q h (a .args .d .0) (a .args .high .0) (b .loop .k - 1) (b .loop .v .0) (d .barred .result) (here d) (passed d q h) (inside d) (a .pre .2) near) )
+          rw (c .back .ensures)
+          (more (barredPart (a .args .x)) (list d) q h (a .args .d .0) (a .args .high .0) (b .loop .k - 1) (b .loop .v .0) (d .barred .result) (here d) (passed d q h) (inside d) (a .pre .2) near),
+    )
 
 returns-2 : tie.Need-returns-2 Inv-loop μ-loop
 returns-2 c =
     let b = c .before in
-    let a = b .before in
-    ( b .loop .inv .1,
+    let a = b .before in (
+      b .loop .inv .1,
       λ q h o.
-      end (barredPart (a .args .x)) (stretchesOf (a .args .ss .now)) q h (a .args .d .0) (a .args .high .0) (b .loop .k) (b .loop .v .0) (b .loop .inv .2 q h) (omega arith) )
+          end (barredPart (a .args .x)) (stretchesOf (a .args .ss .now)) q h (a .args .d .0) (a .args .high .0) (b .loop .k) (b .loop .v .0) (b .loop .inv .2 q h) (omega arith),
+    )
 
 pub last-free-spec : {M : Type 1} → statement M
 last-free-spec =

@@ -58,8 +58,8 @@ loop-again c =
     let a = b .before .before .before .before .before in
     let ss = stretchesOf (a .args .ss .now) in
     let m =
-      more ss (a .args .w) (a .args .most .0) (b .loop .k) (b .loop .x) (d .stretch-at .result) (d .stretch-at .ensures) (b .loop .inv .1)
-      (omega (arith, length-stretches (a .args .ss .now))) in
+    more ss (a .args .w) (a .args .most .0) (b .loop .k) (b .loop .x) (d .stretch-at .result) (d .stretch-at .ensures) (b .loop .inv .1)
+    (omega (arith, length-stretches (a .args .ss .now))) in
     (omega arith, rw (c .lowered .ensures) m)
 
 returns-2 : tie.Need-returns-2 Inv-loop μ-loop

@@ -78,11 +78,12 @@ loop-again c =
     let d = c .before in
     let b = d .before .before .before in
     let h = b .before .before .before .half-of in
-    let a = b .before .before .before .before .before in
-    ( omega arith,
+    let a = b .before .before .before .before .before in (
+      omega arith,
       λ q t.
-      rw (c .shorter .ensures)
-      (more (barredPart (a .args .x)) (list d) q t (a .args .x .days) (a .args .most .0) (b .loop .k) (b .loop .r .0) (h .result .0) (h .ensures) (d .barred .result) (here d) (b .loop .inv .1 q t) (inside d)) )
+          rw (c .shorter .ensures)
+          (more (barredPart (a .args .x)) (list d) q t (a .args .x .days) (a .args .most .0) (b .loop .k) (b .loop .r .0) (h .result .0) (h .ensures) (d .barred .result) (here d) (b .loop .inv .1 q t) (inside d)),
+    )
 
 returns-2 : tie.Need-returns-2 Inv-loop μ-loop
 returns-2 c =

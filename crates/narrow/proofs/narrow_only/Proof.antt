@@ -74,7 +74,7 @@ returns c =
     let u = w .with-needs in
     let d = t .duration .low .0 in
     let told : Told (barredPart (x .result)) ss q =
-      subst (λ (y : Reach). Told (barredPart y) ss q) (sym (x .ensures)) (bars-told r limit ts t fit ss tells alone k (known .enough)) in
+    subst (λ (y : Reach). Told (barredPart y) ss q) (sym (x .ensures)) (bars-told r limit ts t fit ss tells alone k (known .enough)) in
     let n = s .ensures .1 (needed r limit ts t) (page-needs r limit ts t fit k ss tells (only-has r (pos 0) t alone)) in
     let o = c .before .before .before .free-span in
     let e = c .before .before .free-ends in

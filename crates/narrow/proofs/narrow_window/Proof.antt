@@ -78,10 +78,10 @@ returns c =
     let high = n .begun2 .result in
     let o = known .tells .ordered in
     let e : take (high - low) (drop low ss) ≡ stretchesOf (take (high - low) (drop low rows)) =
-      sym (stretches-take (high - low) (drop low rows) ∙ ap (take (high - low)) (stretches-drop low rows)) in
+    sym (stretches-take (high - low) (drop low rows) ∙ ap (take (high - low)) (stretches-drop low rows)) in
     let p =
-      part-tells r limit ts t (fit-out t (a .pre .0 .fits)) ss (known .tells) low high (early n o) (late n o)
-      (omega arith) (omega (arith, n .begun2 .ensures .0, length-stretches rows)) in
+    part-tells r limit ts t (fit-out t (a .pre .0 .fits)) ss (known .tells) low high (early n o) (late n o)
+    (omega arith) (omega (arith, n .begun2 .ensures .0, length-stretches rows)) in
     c .narrow-here .ensures limit ts
     (record { tells = subst (λ (x : List Stretch). Tells r limit ts t x) e p; among = known .among; enough = known .enough })
     among

@@ -31,10 +31,11 @@ abbrev μ-loop : tie.MeasureT-loop
 loop-holds : tie.Need-loop-holds Inv-loop μ-loop
 loop-holds c =
     let a = c .before .before in
-    let s : Days = record { from = a .args .w .to; to = a .args .w .from } in
-    ( omega arith,
+    let s : Days = record { from = a .args .w .to; to = a .args .w .from } in (
+      omega arith,
       between-start (a .args .w) s (a .pre .full) refl refl,
-      λ q h. start (neededPart (a .args .w) (a .args .h)) (stretchesOf (a .args .ss .now)) q h (a .args .w) s refl refl )
+      λ q h. start (neededPart (a .args .w) (a .args .h)) (stretchesOf (a .args .ss .now)) q h (a .args .w) s refl refl,
+    )
 
 stretch-at-requires : tie.Need-stretch-at-requires Inv-loop μ-loop
 stretch-at-requires c κs = omega arith
@@ -59,20 +60,22 @@ loop-again c =
     let ss = stretchesOf (a .args .ss .now) in
     let s = getD ss (b .loop .k) noStretch in
     let e : d .needed-part .result ≡ neededPart (a .args .w) (a .args .h) s = d .needed-part .ensures ∙ ap (neededPart (a .args .w) (a .args .h)) (d .before .stretch-at .ensures) in
-    let f : c .joined .result ≡ joined (neededPart (a .args .w) (a .args .h) s) (b .loop .r) = c .joined .ensures ∙ ap (λ (p : Part). joined p (b .loop .r)) e in
-    ( omega arith,
+    let f : c .joined .result ≡ joined (neededPart (a .args .w) (a .args .h) s) (b .loop .r) = c .joined .ensures ∙ ap (λ (p : Part). joined p (b .loop .r)) e in (
+      omega arith,
       rw f (between-more (a .args .w) s (ltZ (s .tight .0) (a .args .h .0)) (b .loop .r) (b .loop .inv .1)),
       λ q h.
-      rw (c .joined .ensures)
-      (more (neededPart (a .args .w) (a .args .h)) ss q h (a .args .w) (b .loop .k) (b .loop .r) (d .needed-part .result) e (b .loop .inv .2 q h) (omega (arith, length-stretches (a .args .ss .now)))) )
+          rw (c .joined .ensures)
+          (more (neededPart (a .args .w) (a .args .h)) ss q h (a .args .w) (b .loop .k) (b .loop .r) (d .needed-part .result) e (b .loop .inv .2 q h) (omega (arith, length-stretches (a .args .ss .now)))),
+    )
 
 returns : tie.Need-returns Inv-loop μ-loop
 returns c =
     let b = c .before in
-    let a = b .before .before .before in
-    ( b .loop .inv .1,
+    let a = b .before .before .before in (
+      b .loop .inv .1,
       λ q h.
-      end (neededPart (a .args .w) (a .args .h)) (stretchesOf (a .args .ss .now)) q h (a .args .w) (b .loop .k) (b .loop .r) (b .loop .inv .2 q h) (omega (arith, length-stretches (a .args .ss .now))) )
+          end (neededPart (a .args .w) (a .args .h)) (stretchesOf (a .args .ss .now)) q h (a .args .w) (b .loop .k) (b .loop .r) (b .loop .inv .2 q h) (omega (arith, length-stretches (a .args .ss .now))),
+    )
 
 pub needed-days-spec : {M : Type 1} → statement M
 needed-days-spec =

@@ -33,8 +33,8 @@ returns c =
     let x = c .needed-days .result in
     let h : ltZ (pos 0) (t .height .high .0) ≡ true = sym (c .before .before .below .ensures) ∙ c .before .if1 .taken in
     let f =
-      subst (λ (w : Days). Between w x × ((q : ℤ → Bool) → Told (neededPart w (t .height .high)) ss q → Needed q (w .from .0) (w .to .0) x))
-      (p .possible-days .ensures) (c .needed-days .ensures) in
+    subst (λ (w : Days). Between w x × ((q : ℤ → Bool) → Told (neededPart w (t .height .high)) ss q → Needed q (w .from .0) (w .to .0) x))
+    (p .possible-days .ensures) (c .needed-days .ensures) in
     (f .0, λ q n. f .1 q (n .told h))
 
 returns-2 : tie.Need-returns-2

@@ -39,9 +39,9 @@ returns c =
     let s = a .args .s in
     let g : ltZ (s .from .0) (t .end .high .0) ≡ true = sym (n .before .before2 .ensures) ∙ n .if1 .taken in
     let o : c .before .before .cut-to .result ≡ cutTo (s .to .0 -ℤ t .duration .high .0) (s .from .0) (t .origin) =
-      c .before .before .cut-to .ensures ∙ ap (λ (u : Day). cutTo (u .0) (s .from .0) (t .origin)) (c .before .before .before .minus .ensures) in
+    c .before .before .cut-to .ensures ∙ ap (λ (u : Day). cutTo (u .0) (s .from .0) (t .origin)) (c .before .before .before .minus .ensures) in
     let e : c .cut-to2 .result ≡ cutTo (s .to .0) (s .from .0 +ℤ t .duration .high .0) (t .end) =
-      c .cut-to2 .ensures ∙ ap (λ (u : Day). cutTo (s .to .0) (u .0) (t .end)) (c .before .plus .ensures) in
+    c .cut-to2 .ensures ∙ ap (λ (u : Day). cutTo (s .to .0) (u .0) (t .end)) (c .before .plus .ensures) in
     rw (g, o, e, bit-small (a .args .r) (a .pre .0 .place))
 
 returns-2 : tie.Need-returns-2

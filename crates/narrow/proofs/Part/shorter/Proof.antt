@@ -45,11 +45,11 @@ returns c =
     let x = a .self .from .0 -ℤ a .w .from .0 in
     let y = a .w .to .0 -ℤ a .self .to .0 in
     let l : c .before .before .larger .result ≡ day (larger x y) =
-      c .before .before .larger .ensures ∙ ap₂ (λ (u v : Day). day (larger (u .0) (v .0))) (m .before .minus .ensures) (m .minus2 .ensures) in
+    c .before .before .larger .ensures ∙ ap₂ (λ (u v : Day). day (larger (u .0) (v .0))) (m .before .minus .ensures) (m .minus2 .ensures) in
     let n : c .before .larger2 .result ≡ day (larger (a .half .0) (larger x y)) =
-      c .before .larger2 .ensures ∙ ap (λ (u : Day). day (larger (a .half .0) (u .0))) l in
+    c .before .larger2 .ensures ∙ ap (λ (u : Day). day (larger (a .half .0) (u .0))) l in
     let e : c .smaller .result ≡ day (smaller (a .r .0) (larger (a .half .0) (larger x y))) =
-      c .smaller .ensures ∙ ap (λ (u : Day). day (smaller (a .r .0) (u .0))) n in
+    c .smaller .ensures ∙ ap (λ (u : Day). day (smaller (a .r .0) (u .0))) n in
     rw (t .before .before .if1 .taken, g) (ap (λ (u : Day). u .0) e)
 
 returns-2 : tie.Need-returns-2
