@@ -34,6 +34,9 @@ module _ (t : Task) (h : rangesFit t ≡ true) where
   pub dated : t .origin .low .0 <ℤ t .end .high .0 → Dated (possibleDays t)
   dated l = let f = fit-out t h in record { floor = f .origin-low; top = f .end-high; full = omega z }
 
+  pub fits-end : SFits w64 (t .origin .low .0 +ℤ t .duration .high .0)
+  fits-end = let f = fit-out t h in omega (z, +z (t .origin .low .0) (t .duration .high .0))
+
   pub short-least : Short (t .duration .low .0)
   short-least = let f = fit-out t h in record { none = f .duration-low; most = omega z }
 

@@ -10,9 +10,10 @@ use Rattle.integers.specs.Tests.{if, and, any}
 use Rattle.integers.specs.Whole.{larger}
 use Rattle.integers.specs.Hull.{range, left}
 use Rattle.integers.specs.Hull.Left.{Some}
-use Rattle.integers.proofs.Z.{z, -z, maxz}
+use Rattle.integers.proofs.Z.{z, +z, -z, maxz, ltZ-out}
 use Rattle.integers.proofs.Tests.{clash, by-cases, if-case, false-in, and-first, and-second}
 use Rattle.plan.specs.declared.Task.{Task}
+use Rattle.plan.specs.declared.Span.{Span}
 use Rattle.plan.specs.declared.Power.{Power}
 use Rattle.plan.specs.declared.PowerSpan.{PowerSpan}
 use Rattle.plan.specs.declared.Narrowed.{Narrowed}
@@ -28,13 +29,13 @@ use Rattle.stretches.specs.View.{onDay}
 use Rattle.stretches.specs.Tells.{Tells}
 use Rattle.narrow.specs.declared.Days.{Days}
 use Rattle.narrow.specs.Searches.{Freed, Longest, Needed, Least}
-use Rattle.narrow.specs.Ready.{runningDays, under, withNeeds, NeedsTold, Lifted, finished, earlier}
-use Rattle.narrow.proofs.Others.{Fit, possible-out, sure-possible, barred-is, needed-is}
-use Rattle.narrow.proofs.Told.{needs-told, needs-none}
-use Rattle.narrow.proofs.Left.{needs-origin, needs-end, left-origin, left-duration, left-end}
+use Rattle.narrow.specs.Ready.{runningDays, under, withNeeds, NeedsTold, Lifted, Still, finished, earlier}
+use Rattle.narrow.proofs.Others.{Fit, possible-out, running-in, sure-in, sure-possible, barred-is, needed-is}
+use Rattle.narrow.proofs.Told.{needs-told, needs-none, unsure}
+use Rattle.narrow.proofs.Left.{Cut, needs-origin, needs-end, left-origin, left-duration, left-end}
 use Rattle.narrow.proofs.Long.{longest-none}
 use Rattle.narrow.proofs.Freed.{freed-none}
-use Rattle.narrow.proofs.Whole.{height-same, least-full, height-lifted, set-needed, set-kept, set-same, narrowed-is}
+use Rattle.narrow.proofs.Whole.{height-flat, set-alone, height-same, least-full, height-lifted, set-needed, set-kept, set-same, narrowed-is}
 
 -- needs change neither durations nor heights
 pub needs-duration : (r : ℕ) (s : Days) (t : Task) → withNeeds r s t .duration ≡ t .duration
@@ -60,13 +61,19 @@ module _ (r : ℕ) (limit : ℤ → ℤ) (ts : List Task) (t : Task) (fit : Fit 
     module _ (alone : only (t .set) r ≡ true) (enough : any (shortfall r limit ts) (listedDays ts) ≡ false) where
       height-is : Lifted t ss (out .height) → left (keepsHeight r limit ts (listedDays ts) t) (powersOf (t .height)) ≡ Some (powersOf (out .height))
       height-is l =
-          let x = l .slack in
           let h = t .height .high .0 in
-          let a = least-full r limit ts t fit k ss tells alone enough x (l .least) in
-          let e = l .low in
-          let f : h -ℤ x ≡ out .height .low .0 = omega (z, -z h x, -z h (larger x (pos 0)), maxz x (pos 0)) in
           let g : h ≡ out .height .high .0 = ap (λ (p : Power). p .0) (sym (l .high)) in
-          height-lifted r limit ts t fit k ss tells alone enough x (l .least) ∙ ap₂ (λ (x y : ℤ). Some (range x y)) f g
+          by-cases (ltZ (t .height .low .0) h)
+          (λ e.
+            let p = l .raised e in
+            let x = p .slack in
+            let a = least-full r limit ts t fit k ss tells alone enough x (p .least) in
+            let i = p .is in
+            let f : h -ℤ x ≡ out .height .low .0 = omega (z, -z h x, -z h (larger x (pos 0)), maxz x (pos 0)) in
+            height-lifted r limit ts t fit k ss tells alone enough x (p .least) ∙ ap₂ (λ (x y : ℤ). Some (range x y)) f g)
+          (λ e.
+            let f : t .height .low .0 ≡ out .height .low .0 = ap (λ (p : Power). p .0) (sym (l .same e)) in
+            height-flat r limit ts t fit k enough (omega z) ∙ ap₂ (λ (x y : ℤ). Some (range x y)) f g)
 
       pub only-page : out .set ≡ u .set → Freed (shut r limit ts t) (t .duration .low .0) (u .origin) (out .origin) → Freed (shut r limit ts t) (t .duration .low .0) (earlier (t .duration .low .0) (u .end)) (earlier (t .duration .low .0) (out .end)) → out .duration .low .0 ≡ t .duration .low .0 → Longest (shut r limit ts t) (t .origin .low .0) (t .end .high .0) (t .duration .high .0) (out .duration .high .0) → Lifted t ss (out .height) → finished out ≡ narrowed r limit ts (listedDays ts) t
       only-page a o e d l h =
@@ -114,3 +121,57 @@ still-page r limit ts t f e n =
       height = λ s. absurd (n i (sure-possible r i t f s));
     })
     (live-fit t f e))
+
+-- ---- a task that nothing can change
+finished-live : (t : Task) → Live t → finished t ≡ Kept t
+unfolding finished
+finished-live t l =
+    let a = l .origin in
+    let b = l .duration in
+    let c = l .end in
+    rw (ltZ-out (t .origin .high .0) (t .origin .low .0) a, ltZ-out (t .duration .high .0) (t .duration .low .0) b, ltZ-out (t .end .high .0) (t .end .low .0) c, l .set)
+
+module _ (r : ℕ) (limit : ℤ → ℤ) (ts : List Task) (t : Task) (fit : Fit t) (k : In t ts) (ss : List Stretch) (tells : Tells r limit ts t ss) (enough : any (shortfall r limit ts) (listedDays ts) ≡ false) (still : Still r t) where
+  -- each of its possible days is a sure one, so none is barred
+  never-shut : (i : ℤ) → shut r limit ts t i ≡ true → ⊥
+  unfolding shut
+  never-shut i e =
+      let b = and-second (only (t .set) r) (barred r limit ts t i) e in
+      let p = possible-out r i t (barred-is r limit ts t i b .possible) in
+      let s = sure-in r i t (still .alone) (running-in r i t (omega z) (omega z)) in
+      clash (sure r i t) s (unsure r limit ts t fit ss tells (still .alone) k enough i b)
+
+  still-cut : (s : Span) → ((v : ℤ) → s .low .0 ≤ℤ v → v ≤ℤ s .high .0 → (i : ℤ) → t .origin .low .0 ≤ℤ i → i <ℤ t .end .high .0 → (((i -ℤ t .duration .high .0) +ℤ pos 1) ≤ℤ v) × (v ≤ℤ i)) → Cut (needed r limit ts t) (t .duration .high .0) s s
+  still-cut s f =
+      record {
+        least = omega z;
+        most = omega z;
+        meets = λ v a b i e. let p = possible-out r i t (needed-is r limit ts t i e .possible) in f v a b i (p .late) (p .early);
+        whole = λ v a b m. (a, b);
+      }
+
+  pub fixed-page : eqb (t .set) 0 ≡ false → Kept t ≡ narrowed r limit ts (listedDays ts) t
+  fixed-page e =
+      let q = shut r limit ts t in
+      let dl = t .duration .low .0 in
+      let du = t .duration .high .0 in
+      let ol = t .origin .low .0 in
+      let l = still .long in
+      let f₁ = still .origin in
+      let f₂ = still .end in
+      sym (finished-live t (live-fit t fit e))
+      ∙ narrowed-is r limit ts t t
+      (left-origin r limit ts t k (t .origin) (t .origin)
+      (still-cut (t .origin) (λ v a b i c d. (omega (z, -z i du, +z (i -ℤ du) (pos 1), +z ol du), omega z)))
+      (freed-none q dl (t .origin) never-shut))
+      (left-duration r limit ts t k (t .duration) refl (longest-none q ol (t .end .high .0) du never-shut))
+      (left-end r limit ts t k (t .end) (t .end)
+      (still-cut (earlier du (t .end))
+      (λ v a b i c d.
+        let a' : (t .end .low .0 -ℤ du) ≤ℤ v = a in
+        let b' : v ≤ℤ (t .end .high .0 -ℤ du) = b in
+        ( omega (z, -z i du, +z (i -ℤ du) (pos 1), -z (t .end .low .0) du),
+          omega (z, -z (t .end .high .0) du, +z ol du) )))
+      (freed-none q dl (earlier dl (t .end)) never-shut))
+      (height-flat r limit ts t fit k enough (still .height))
+      (set-same r limit ts t fit k ss tells (still .alone) enough ∙ set-alone r limit ts t fit k ss tells (still .alone))

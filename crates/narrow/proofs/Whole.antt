@@ -22,6 +22,7 @@ use Rattle.plan.specs.declared.Value.the-variants.{Origin, Duration, End, Heigh
 use Rattle.plan.specs.Days.{daysOf, spanOf, emptySpan}
 use Rattle.plan.specs.Powers.{powersOf, powerSpanOf}
 use Rattle.plan.specs.Sets.{has, only, without}
+use Rattle.plan.proofs.Sets.{only-is}
 use Rattle.rules.specs.Step.{possible, running, sure, total, others, shortfall, needed, barred, shut, orRanOut, keepsOrigin, keepsDuration, keepsEnd, keepsHeight, neededSet, keptSet, narrowed, listedDays}
 use Rattle.rules.proofs.Days.{In, listed, every-day}
 use Rattle.stretches.specs.declared.Stretch.{Stretch}
@@ -64,6 +65,23 @@ module _ (r : ℕ) (limit : ℤ → ℤ) (ts : List Task) (t : Task) (fit : Fit 
       let f : (v : ℤ) → keepsHeight r limit ts (listedDays ts) t v ≡ true = λ v. height-kept v (λ i s. clash (only (t .set) r) (sure-only r i t s) n) in
       let a = fit .height in
       left-is (keepsHeight r limit ts (listedDays ts) t) (powersOf (t .height)) (t .height .low .0) (t .height .high .0) (omega z) (omega z) (f (t .height .low .0)) (f (t .height .high .0))
+      (λ u w e. (w .least, w .most))
+
+  -- a height of one value stays: on a sure day the hopes reach the limit with it
+  pub height-flat : any (shortfall r limit ts) (listedDays ts) ≡ false → t .height .high .0 ≤ℤ t .height .low .0 → left (keepsHeight r limit ts (listedDays ts) t) (powersOf (t .height)) ≡ Some (powersOf (t .height))
+  unfolding slackOn
+  height-flat enough flat =
+      let a = fit .height in
+      let x = t .height .high .0 in
+      let f : (v : ℤ) → x ≤ℤ v → keepsHeight r limit ts (listedDays ts) t v ≡ true =
+        λ v l.
+        height-kept v
+        (λ i s.
+          let e = lifted-is r limit ts t i fit s in
+          let g = no-short r limit ts t fit k enough i s in
+          let y = total r ts i -ℤ limit i in
+          omega (z, -z (total r ts i) (limit i), -z x y)) in
+      left-is (keepsHeight r limit ts (listedDays ts) t) (powersOf (t .height)) (t .height .low .0) x (omega z) (omega z) (f (t .height .low .0) flat) (f x (omega z))
       (λ u w e. (w .least, w .most))
 
   module _ (ss : List Stretch) (tells : Tells r limit ts t ss) where
@@ -202,6 +220,12 @@ module _ (r : ℕ) (limit : ℤ → ℤ) (ts : List Task) (t : Task) (fit : Fit 
         let a = and-second (barred r limit ts t i) (running r i t) f in
         clash (sure r i t) (sure-in r i t alone a) (unsure r limit ts t fit ss tells alone k enough i b))
         )
+
+    -- which it has as its only resource already
+    pub set-alone : only (t .set) r ≡ true → neededSet r limit ts (listedDays ts) t ≡ t .set
+    unfolding neededSet
+    set-alone alone =
+        if-case (λ (n : ℕ). n ≡ t .set) (any (needed r limit ts t) (listedDays ts)) (2 ^ r) (t .set) (λ e. sym (only-is (t .set) r alone)) (λ e. refl)
 
 -- ---- THE PAGE'S TASK
 abbrev pieces : Left → Left → Left → Left → ℕ → Narrowed

@@ -5,7 +5,7 @@ use mathlib.Core.List.{List, [], _∷_}
 use Prim.Native.Nat.{ℕ, _<_, _^_}
 use lib.Dec.{eqb}
 use lib.IntN.{ℤ, pos, negℤ, _+ℤ_, _-ℤ_}
-use lib.Signed.{ltZ}
+use lib.Signed.{ltZ, _≤ℤ_}
 use Rattle.integers.specs.Tests.{if, any}
 use Rattle.integers.specs.Whole.{larger}
 use Rattle.integers.specs.Hull.{Left}
@@ -18,7 +18,7 @@ use Rattle.plan.specs.declared.Narrowed.the-variants.{Kept, RanOut}
 use Rattle.plan.specs.declared.Value.the-variants.{Origin, Duration, End, Set}
 use Rattle.plan.specs.Days.{day, daysOf, emptySpan, cutTo}
 use Rattle.plan.specs.Powers.{power}
-use Rattle.plan.specs.Sets.{without}
+use Rattle.plan.specs.Sets.{only, without}
 use Rattle.rules.specs.Step.{shortfall, listedDays}
 use Rattle.rules.specs.Calls.{rangesFit}
 use Rattle.stretches.specs.declared.Stretch.{Stretch}
@@ -76,17 +76,30 @@ pub record NeedsTold (t : Task) (ss : List Stretch) (q : ℤ → Bool) : Type 0 
   pub told : ltZ (pos 0) (t .height .high .0) ≡ true → Told (neededPart (possibleDays t) (t .height .high)) ss q
   pub none : ltZ (pos 0) (t .height .high .0) ≡ false → (i : ℤ) → q i ≡ true → ⊥
 
--- the height is lifted to the highest less the least slack on the running days, which is not below 0 where there is no shortfall
-pub record Lifted (t : Task) (ss : List Stretch) (h : PowerSpan) : Type 0 where
+-- a height of one value stays; any other is lifted to the highest less the least slack on the running days, which is not below 0 where
+-- there is no shortfall
+pub record Raised (t : Task) (ss : List Stretch) (low : ℤ) : Type 0 where
   pub slack : ℤ
   pub least : Least ss (runningDays t) (t .height .high .0 -ℤ t .height .low .0) slack
-  pub low : h .low .0 ≡ t .height .high .0 -ℤ larger slack (pos 0)
+  pub is : low ≡ t .height .high .0 -ℤ larger slack (pos 0)
+
+pub record Lifted (t : Task) (ss : List Stretch) (h : PowerSpan) : Type 0 where
   pub high : h .high ≡ t .height .high
+  pub raised : ltZ (t .height .low .0) (t .height .high .0) ≡ true → Raised t ss (h .low .0)
+  pub same : ltZ (t .height .low .0) (t .height .high .0) ≡ false → h .low ≡ t .height .low
 
 -- "r leaves its set"
 abbrev pub withoutHere : ℕ → Task → Task
 withoutHere r t =
     record { set = without (t .set) r; origin = t .origin; duration = t .duration; end = t .end; height = t .height }
+
+-- a task of one origin, end and height that is only here and fills its days: no rule can change it
+pub record Still (r : ℕ) (t : Task) : Type 0 where
+  pub alone : only (t .set) r ≡ true
+  pub origin : t .origin .high .0 ≤ℤ t .origin .low .0
+  pub end : t .end .high .0 ≤ℤ t .end .low .0
+  pub height : t .height .high .0 ≤ℤ t .height .low .0
+  pub long : t .end .high .0 ≤ℤ (t .origin .low .0 +ℤ t .duration .high .0)
 
 -- ---- what is left: a range whose low end is above its high end is empty
 abbrev pub leftOf : Span → Left

@@ -20,7 +20,7 @@ ghost use Rattle.rules.specs.Step.{shortfall, listedDays, narrowed};
 ghost use Rattle.stretches.specs.View.{stretchesOf};
 ghost use Rattle.stretches.specs.Tells.{Ordered, Tells};
 ghost use Rattle.narrow.specs.Searches.{holds, partOf, barredPart, neededPart, Told, FirstFree, LastFree, Freed, Longest, Needed, Between, Least, Begun, Near, Close, Dated, Placed, Short, Half, past, back, shorter, joined, lowered};
-ghost use Rattle.narrow.specs.Ready.{Ready, Among, Known, possibleDays, runningDays, under, reachOf, withNeeds, NeedsTold, Lifted, withoutHere, finished, earlier, later};
+ghost use Rattle.narrow.specs.Ready.{Ready, Among, Known, possibleDays, runningDays, under, reachOf, withNeeds, NeedsTold, Lifted, Still, withoutHere, finished, earlier, later};
 use plan::Day;
 use plan::Narrowed;
 use plan::Power;
@@ -146,7 +146,9 @@ impl Part {
         let end = w.to;
         if self.hit {
             if from.before(to) {
-                r.smaller(half.larger(from.minus(first).larger(end.minus(to))))
+                let before = from.minus(first);
+                let after = end.minus(to);
+                r.smaller(half.larger(before.larger(after)))
             } else {
                 r
             }
@@ -295,6 +297,47 @@ pub fn free_ends(ss: &[[i64; 4]], x: Reach, d: Day, s: Span) -> Span
         low: first.plus(d),
         high: last.plus(d),
     }
+}
+
+// The same two ends.
+pub fn same_span(a: Span, b: Span) -> bool
+    ensures { λ r. ⌜ (r ≡ true → a ≡ b) ⌝ }
+{
+    let low = a.low;
+    let high = a.high;
+    let least = b.low;
+    let most = b.high;
+    if low.until(least) {
+        if least.until(low) {
+            if high.until(most) { most.until(high) } else { false }
+        } else {
+            false
+        }
+    } else {
+        false
+    }
+}
+
+// What bars leave of a range of ends, where o is what they leave of the origins s: most often the ends are the origins d days later.
+pub fn ends_after(ss: &[[i64; 4]], x: Reach, d: Day, end: Span, s: Span, o: Span) -> Span
+    requires { ⌜ Dated (x .days) × Short (d .0) × (Close (end .low .0) × Close (end .high .0)) × Near (o .low .0) × Near (o .high .0) ⌝ }
+    ensures { λ r. ⌜ ((q : ℤ → Bool) → Told (barredPart x) (stretchesOf (now (ss .entry))) q → Ordered (stretchesOf (now (ss .entry))) → Freed q (d .0) s o → Freed q (d .0) (earlier (d .0) end) (earlier (d .0) r)) ⌝ }
+{
+    let low = end.low;
+    let high = end.high;
+    let moved = Span {
+        low: low.minus(d),
+        high: high.minus(d),
+    };
+    if same_span(moved, s) {
+        let first = o.low;
+        let last = o.high;
+        return Span {
+            low: first.plus(d),
+            high: last.plus(d),
+        };
+    }
+    free_ends(ss, x, d, end)
 }
 
 // The longest duration up to most that misses a day of every barred part. Half the reach always does.
@@ -451,6 +494,9 @@ pub fn lifted(ss: &[[i64; 4]], t: Task) -> PowerSpan
     let height = t.height;
     let low = height.low;
     let high = height.high;
+    if high.up_to(low) {
+        return height;
+    }
     let slack = least_slack(ss, running_days(t), high.minus(low));
     PowerSpan {
         low: high.minus(slack.larger(Power(0))),
@@ -494,7 +540,7 @@ pub fn narrow_only(ss: &[[i64; 4]], t: Task, r: u64) -> Task
     let origin = u.origin;
     let end = u.end;
     let o = free_span(ss, x, least, origin);
-    let e = free_ends(ss, x, least, end);
+    let e = ends_after(ss, x, least, end, origin, o);
     let d = Span {
         low: least,
         high: longest(ss, x, most),
@@ -596,6 +642,35 @@ pub fn narrow_window(ss: &[[i64; 4]], t: Task, r: u64) -> Narrowed
     }
 }
 
+// One value each for origin, end and height, only here, and as long as its days.
+pub fn is_still(t: Task, r: u64) -> bool
+    requires { ⌜ Ready r t ⌝ }
+    ensures { λ b. ⌜ (b ≡ true → Still r t) ⌝ }
+{
+    let origin = t.origin;
+    let duration = t.duration;
+    let end = t.end;
+    let height = t.height;
+    let start = origin.low;
+    let first = origin.high;
+    let low = end.low;
+    let high = end.high;
+    let least = height.low;
+    if plan::only_resource(t.set, r) {
+        if first.until(start) {
+            if high.until(low) {
+                if height.high.up_to(least) { high.until(start.plus(duration.high)) } else { false }
+            } else {
+                false
+            }
+        } else {
+            false
+        }
+    } else {
+        false
+    }
+}
+
 // THE TASK AFTER THE STEP OF RESOURCE r, for every list of tasks and limit that the stretches tell of.
 pub fn narrow(ss: &[[i64; 4]], t: Task, r: u64) -> Narrowed
     requires { ⌜ Ready r t ⌝ }
@@ -606,7 +681,11 @@ pub fn narrow(ss: &[[i64; 4]], t: Task, r: u64) -> Narrowed
     let to = w.to;
     if from.before(to) {
         if plan::has_resource(t.set, r) {
-            narrow_window(ss, t, r)
+            if is_still(t, r) {
+                Narrowed::Kept(t)
+            } else {
+                narrow_window(ss, t, r)
+            }
         } else {
             Narrowed::Kept(t)
         }

@@ -120,8 +120,8 @@ nothing (suc n) s h f =
     let b : s % 2 ≡ 0 = off (s % 2) (omega arith) (f 0) in
     by-cases (eqb s 0) (eqb-true s 0)
     (λ e.
-    let a : s / 2 ≡ 0 = nothing n (s / 2) (omega arith) (λ k. f (suc k)) in
-    omega arith)
+      let a : s / 2 ≡ 0 = nothing n (s / 2) (omega arith) (λ k. f (suc k)) in
+      omega arith)
 
 -- a set with r and nothing else is that of r alone
 pub alone-is : (r s : ℕ) → has s r ≡ true → ((k : ℕ) → has s k ≡ true → k ≡ r) → s ≡ 2 ^ r
@@ -186,9 +186,9 @@ some-from zero s l e = let a : s ≡ 0 = omega arith in clash (eqb s 0) (eqb-in 
 some-from (suc n) s l e =
     by-cases (eqb (s % 2) 1) (λ b. (0, b))
     (λ b.
-    let a = off (s % 2) (omega arith) b in
-    let h = some-from n (s / 2) (omega arith) (false-in (eqb (s / 2) 0) (λ q. let d = eqb-true (s / 2) 0 q in let f : s ≡ 0 = omega arith in clash (eqb s 0) (eqb-in s 0 f) e)) in
-    (suc (h .0), h .1))
+      let a = off (s % 2) (omega arith) b in
+      let h = some-from n (s / 2) (omega arith) (false-in (eqb (s / 2) 0) (λ q. let d = eqb-true (s / 2) 0 q in let f : s ≡ 0 = omega arith in clash (eqb s 0) (eqb-in s 0 f) e)) in
+      (suc (h .0), h .1))
 
 pub some-place : (s : ℕ) → eqb s 0 ≡ false → (k : ℕ) × (has s k ≡ true)
 some-place s e = some-from s s (omega arith) e

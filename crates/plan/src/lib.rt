@@ -154,11 +154,7 @@ impl Power {
     pub fn fits(self) -> bool
         ensures { λ r. ⌜ r ≡ powerFits self ⌝ }
     {
-        if Power::lowest().up_to(self) {
-            self.up_to(Power::highest())
-        } else {
-            false
-        }
+        if Power::lowest().up_to(self) { self.up_to(Power::highest()) } else { false }
     }
 }
 
@@ -212,11 +208,7 @@ impl Span {
         let low = self.low;
         let high = self.high;
         if least.until(low) {
-            if low.until(high) {
-                high.until(most)
-            } else {
-                false
-            }
+            if low.until(high) { high.until(most) } else { false }
         } else {
             false
         }
@@ -255,11 +247,7 @@ impl PowerSpan {
         let low = self.low;
         let high = self.high;
         if Power::lowest().up_to(low) {
-            if low.up_to(high) {
-                high.up_to(Power::highest())
-            } else {
-                false
-            }
+            if low.up_to(high) { high.up_to(Power::highest()) } else { false }
         } else {
             false
         }
@@ -398,9 +386,5 @@ pub fn without_resource(set: u64, k: u64) -> u64
     requires { ⌜ k < 64 ⌝ }
     ensures { λ r. ⌜ r ≡ without set k ⌝ }
 {
-    if has_resource(set, k) {
-        set - (1 << k)
-    } else {
-        set
-    }
+    if has_resource(set, k) { set - (1 << k) } else { set }
 }

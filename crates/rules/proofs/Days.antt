@@ -59,8 +59,8 @@ module _ (r : ℕ) (q : ℤ → Bool) where
   every-day t ts k f h i =
       by-cases (possible r i t)
       (λ e.
-      let w = and-second (has (t .set) r) (and (leZ (t .origin .low .0) i) (ltZ i (t .end .high .0))) e in
-      let a : leZ (t .origin .low .0) i ≡ true = and-first (leZ (t .origin .low .0) i) (ltZ i (t .end .high .0)) w in
-      let b : ltZ i (t .end .high .0) ≡ true = and-second (leZ (t .origin .low .0) i) (ltZ i (t .end .high .0)) w in
-      listed t ts k h i (omega z) (omega z))
+        let w = and-second (has (t .set) r) (and (leZ (t .origin .low .0) i) (ltZ i (t .end .high .0))) e in
+        let a : leZ (t .origin .low .0) i ≡ true = and-first (leZ (t .origin .low .0) i) (ltZ i (t .end .high .0)) w in
+        let b : ltZ i (t .end .high .0) ≡ true = and-second (leZ (t .origin .low .0) i) (ltZ i (t .end .high .0)) w in
+        listed t ts k h i (omega z) (omega z))
       (f i)

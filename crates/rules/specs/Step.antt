@@ -86,8 +86,8 @@ module _ (r : ℕ) where
       keepsOrigin v =
           all
           (λ i.
-          and (implies (needed t i) (within (range ((i -ℤ t .duration .high .0) +ℤ pos 1) i) v))
-          (implies (shut t i) (not (within (range ((i -ℤ t .duration .low .0) +ℤ pos 1) i) v))))
+            and (implies (needed t i) (within (range ((i -ℤ t .duration .high .0) +ℤ pos 1) i) v))
+            (implies (shut t i) (not (within (range ((i -ℤ t .duration .low .0) +ℤ pos 1) i) v))))
           days
 
       -- bar: "duration is at most the larger of i - origin low and end high - i - 1"
@@ -102,8 +102,8 @@ module _ (r : ℕ) where
       keepsEnd v =
           all
           (λ i.
-          and (implies (needed t i) (within (range (i +ℤ pos 1) (i +ℤ t .duration .high .0)) v))
-          (implies (shut t i) (not (within (range (i +ℤ pos 1) (i +ℤ t .duration .low .0)) v))))
+            and (implies (needed t i) (within (range (i +ℤ pos 1) (i +ℤ t .duration .high .0)) v))
+            (implies (shut t i) (not (within (range (i +ℤ pos 1) (i +ℤ t .duration .low .0)) v))))
           days
 
       -- "Height: a task sure on i has height at least L - others."

@@ -45,11 +45,12 @@ free-span-requires c κs =
     let a = w .before .before .before in
     (reached (w .before .before), short-least (a .args .t) (a .pre .0 .fits), close w .origin-low, close w .origin-high)
 
-free-ends-requires : tie.Need-free-ends-requires
-free-ends-requires c κs =
+ends-after-requires : tie.Need-ends-after-requires
+ends-after-requires c κs =
     let w = c .before .before .before .before .before .before in
     let a = w .before .before .before in
-    (reached (w .before .before), short-least (a .args .t) (a .pre .0 .fits), close w .end-low, close w .end-high)
+    let o = c .free-span .ensures .0 in
+    (reached (w .before .before), short-least (a .args .t) (a .pre .0 .fits), (close w .end-low, close w .end-high), o .0, o .1)
 
 longest-requires : tie.Need-longest-requires
 longest-requires c κs = reached (c .before .before .before .before .before .before .before .before .before)
@@ -77,14 +78,14 @@ returns c =
     subst (λ (y : Reach). Told (barredPart y) ss q) (sym (x .ensures)) (bars-told r limit ts t fit ss tells alone k (known .enough)) in
     let n = s .ensures .1 (needed r limit ts t) (page-needs r limit ts t fit k ss tells (only-has r (pos 0) t alone)) in
     let o = c .before .before .before .free-span in
-    let e = c .before .before .free-ends in
+    let e = c .before .before .ends-after in
     let l = c .before .longest in
     only-page r limit ts t fit k ss tells (s .result) n
     (record { set = u .result .set; origin = o .result; duration = record { low = t .duration .low; high = l .result }; end = e .result; height = c .lifted .result })
     alone (known .enough)
     (ap (λ (v : Task). v .set) (u .ensures))
     (subst (λ (v : Task). Freed q d (v .origin) (o .result)) (u .ensures) (o .ensures .1 q told (tells .ordered)))
-    (subst (λ (v : Task). Freed q d (earlier d (v .end)) (earlier d (e .result))) (u .ensures) (e .ensures q told (tells .ordered)))
+    (subst (λ (v : Task). Freed q d (earlier d (v .end)) (earlier d (e .result))) (u .ensures) (e .ensures q told (tells .ordered) (o .ensures .1 q told (tells .ordered))))
     refl
     (subst (λ (y : Reach). Longest q (y .days .from .0) (y .days .to .0) (t .duration .high .0) (l .result .0)) (x .ensures) (l .ensures q told))
     (c .lifted .ensures)
@@ -97,7 +98,7 @@ narrow-only-spec =
     needs-of-requires
     with-needs-requires
     free-span-requires
-    free-ends-requires
+    ends-after-requires
     longest-requires
     lifted-requires
     returns)

@@ -15,7 +15,7 @@ shl-result : tie.Need-shl-result
 shl-result c = search needs
 
 sub-result : tie.Need-sub-result
-sub-result c =
+sub-result c = 
     let b = c .before in
     let a = b .before .args in
     let h : has (a .set) (a .k) ≡ true = sym (b .has-resource .ensures) ∙ c .if1 .taken in
@@ -23,7 +23,7 @@ sub-result c =
 
 returns : tie.Need-returns
 unfolding without
-returns c =
+returns c = 
     let b = c .before in
     let a = b .before .args in
     let h : has (a .set) (a .k) ≡ true = sym (b .has-resource .ensures) ∙ c .if1 .taken in
@@ -31,7 +31,7 @@ returns c =
 
 returns-2 : tie.Need-returns-2
 unfolding without
-returns-2 c =
+returns-2 c = 
     let b = c .before in
     let h : has (b .before .args .set) (b .before .args .k) ≡ false = sym (b .has-resource .ensures) ∙ c .if1 .left in
     simp h

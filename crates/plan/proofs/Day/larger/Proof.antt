@@ -13,7 +13,7 @@ larger-of-requires : tie.Need-larger-of-requires
 larger-of-requires c κs = search needs
 
 returns : tie.Need-returns
-returns c =
+returns c = 
     let a = c .before .before .before .args in
     let r = c .larger-of in
     let e : r .result ≡ larger (toZ w64 (ofZ w64 (a .self .0))) (toZ w64 (ofZ w64 (a .o .0))) = r .ensures in

@@ -13,7 +13,7 @@ smaller-of-requires : tie.Need-smaller-of-requires
 smaller-of-requires c κs = search needs
 
 returns : tie.Need-returns
-returns c =
+returns c = 
     let a = c .before .before .before .args in
     let r = c .smaller-of in
     let e : r .result ≡ smaller (toZ w64 (ofZ w64 (a .self .0))) (toZ w64 (ofZ w64 (a .o .0))) = r .ensures in

@@ -22,22 +22,22 @@ up-to-requires-2 c κs = search needs
 
 returns : tie.Need-returns
 unfolding powerFits
-returns c =
+returns c = 
     let b = c .before .before .before in
     let p = b .before .before .args .self in
     let h : leZ powerLow (p .0) ≡ true =
-    sym (b .up-to .ensures ∙ ap (λ (q : Power). leZ (q .0) (p .0)) (b .before .lowest .ensures)) ∙ c .before .before .if1 .taken in
+      sym (b .up-to .ensures ∙ ap (λ (q : Power). leZ (q .0) (p .0)) (b .before .lowest .ensures)) ∙ c .before .before .if1 .taken in
     let g : c .up-to2 .result ≡ leZ (p .0) powerHigh =
-    c .up-to2 .ensures ∙ ap (λ (q : Power). leZ (p .0) (q .0)) (c .before .highest .ensures) in
+      c .up-to2 .ensures ∙ ap (λ (q : Power). leZ (p .0) (q .0)) (c .before .highest .ensures) in
     simp (h, g)
 
 returns-2 : tie.Need-returns-2
 unfolding powerFits
-returns-2 c =
+returns-2 c = 
     let b = c .before in
     let p = b .before .before .args .self in
     let h : leZ powerLow (p .0) ≡ false =
-    sym (b .up-to .ensures ∙ ap (λ (q : Power). leZ (q .0) (p .0)) (b .before .lowest .ensures)) ∙ c .if1 .left in
+      sym (b .up-to .ensures ∙ ap (λ (q : Power). leZ (q .0) (p .0)) (b .before .lowest .ensures)) ∙ c .if1 .left in
     simp h
 
 pub fits-spec : {M : Type 1} → statement M

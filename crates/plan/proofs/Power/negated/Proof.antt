@@ -13,7 +13,7 @@ negated-requires : tie.Need-negated-requires
 negated-requires c κs = search needs
 
 returns : tie.Need-returns
-returns c =
+returns c = 
     let a = c .before .before .args in
     let r = c .negated in
     let e : r .result ≡ negℤ (toZ w64 (ofZ w64 (a .self .0))) = r .ensures in

@@ -25,35 +25,35 @@ up-to-requires-3 c κs = search needs
 
 returns : tie.Need-returns
 unfolding powersFit
-returns c =
+returns c = 
     let m = c .before .before .before in
     let b = m .before .before in
     let s = b .before .before .before .before .args .self in
     let h : leZ powerLow (s .low .0) ≡ true =
-    sym (b .up-to .ensures ∙ ap (λ (q : Power). leZ (q .0) (s .low .0)) (b .before .lowest .ensures)) ∙ m .before .if1 .taken in
+      sym (b .up-to .ensures ∙ ap (λ (q : Power). leZ (q .0) (s .low .0)) (b .before .lowest .ensures)) ∙ m .before .if1 .taken in
     let k : leZ (s .low .0) (s .high .0) ≡ true = sym (m .up-to2 .ensures) ∙ c .before .before .if2 .taken in
     let g : c .up-to3 .result ≡ leZ (s .high .0) powerHigh =
-    c .up-to3 .ensures ∙ ap (λ (q : Power). leZ (s .high .0) (q .0)) (c .before .highest .ensures) in
+      c .up-to3 .ensures ∙ ap (λ (q : Power). leZ (s .high .0) (q .0)) (c .before .highest .ensures) in
     simp (h, k, g)
 
 returns-2 : tie.Need-returns-2
 unfolding powersFit
-returns-2 c =
+returns-2 c = 
     let m = c .before in
     let b = m .before .before in
     let s = b .before .before .before .before .args .self in
     let h : leZ powerLow (s .low .0) ≡ true =
-    sym (b .up-to .ensures ∙ ap (λ (q : Power). leZ (q .0) (s .low .0)) (b .before .lowest .ensures)) ∙ m .before .if1 .taken in
+      sym (b .up-to .ensures ∙ ap (λ (q : Power). leZ (q .0) (s .low .0)) (b .before .lowest .ensures)) ∙ m .before .if1 .taken in
     let k : leZ (s .low .0) (s .high .0) ≡ false = sym (m .up-to2 .ensures) ∙ c .if2 .left in
     simp (h, k)
 
 returns-3 : tie.Need-returns-3
 unfolding powersFit
-returns-3 c =
+returns-3 c = 
     let b = c .before in
     let s = b .before .before .before .before .args .self in
     let h : leZ powerLow (s .low .0) ≡ false =
-    sym (b .up-to .ensures ∙ ap (λ (q : Power). leZ (q .0) (s .low .0)) (b .before .lowest .ensures)) ∙ c .if1 .left in
+      sym (b .up-to .ensures ∙ ap (λ (q : Power). leZ (q .0) (s .low .0)) (b .before .lowest .ensures)) ∙ c .if1 .left in
     simp h
 
 pub fits-spec : {M : Type 1} → statement M

@@ -18,7 +18,7 @@ until-requires-3 c κs = search needs
 
 returns : tie.Need-returns
 unfolding spanFits
-returns c =
+returns c = 
     let m = c .before .before in
     let b = m .before .before in
     let h = sym (b .until .ensures) ∙ m .before .if1 .taken in
@@ -27,7 +27,7 @@ returns c =
 
 returns-2 : tie.Need-returns-2
 unfolding spanFits
-returns-2 c =
+returns-2 c = 
     let m = c .before in
     let b = m .before .before in
     let h = sym (b .until .ensures) ∙ m .before .if1 .taken in
