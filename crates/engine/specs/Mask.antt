@@ -22,9 +22,3 @@ Idle mask qs ts = (r : ℕ) → r < length qs → has mask r ≡ false → atLea
 pub record Noted (qs : List Resource) (ts us : List Task) (before after : Bool) (mask : ℕ) : Type 0 where
   pub idle : Idle mask qs us
   pub changed : after ≡ or before (not (sameTasks ts us))
-
--- room for the events and stretches of 256 tasks: four events a task, and one stretch more than events
-pub record Roomy (k l m : ℕ) : Type 0 where
-  pub keys : 1024 ≤ k
-  pub spare : 1024 ≤ l
-  pub stretches : 1025 ≤ m

@@ -17,9 +17,10 @@ ghost use Rattle.rules.specs.Calls.{check};
 ghost use Rattle.rules.specs.Calls.Checked.{Accepted};
 ghost use Rattle.rows.specs.View.{tasksOf, resourcesOf, noResource};
 ghost use Rattle.rows.specs.Changes.{outcomeOf, touchedBy};
-ghost use Rattle.rows.specs.Fits.{Bounded, AllBounded, AllFit};
+ghost use Rattle.rows.specs.Fits.{Bounded, AllBounded};
 ghost use Rattle.engine.specs.Facing.{facing, turned, resourcesFacing, tasksFacing};
-ghost use Rattle.engine.specs.Mask.{Idle, Noted, Roomy};
+ghost use Rattle.step.specs.Asks.{Roomy};
+ghost use Rattle.engine.specs.Mask.{Idle, Noted};
 ghost use Rattle.engine.specs.Answers.{settledOf, leftOf, resultOf};
 ghost use Rattle.engine.specs.Calls.{everyPlace, placedIn, callOf, workOf};
 use entry::Entry;
@@ -28,26 +29,6 @@ use plan::Power;
 use plan::Refusal;
 use plan::Sense;
 use plan::Task;
-use rows::Stepped;
-
-pub fn step(
-    s: &mut [[i64; 9]],
-    r: u64,
-    limit: Power,
-    keys: &mut [u64],
-    spare: &mut [u64],
-    ss: &mut [[i64; 4]],
-) -> Stepped
-    requires { ⌜ (r < 64) × (length (now s) ≤ 256) × AllFit 64 (tasksOf (now s)) × (powerFits limit ≡ true) ⌝ }
-    requires { ⌜ Roomy (length (now keys)) (length (now spare)) (length (now ss)) ⌝ }
-    ensures outcome { λ o. ⌜ outcomeOf (o .ok) (tasksOf (now (s .exit))) ≡ atLeastStep r (λ i. limit .0) (tasksOf (now (s .entry))) ⌝ }
-    ensures touched { λ o. ⌜ (o .ok ≡ true → o .touched ≡ touchedBy (tasksOf (now (s .entry))) (tasksOf (now (s .exit)))) ⌝ }
-{
-    Stepped {
-        ok: true,
-        touched: 0,
-    }
-}
 
 // What a pass has done so far: a plan is left, something changed, and which resources may still change something.
 pub struct Passed {
@@ -102,7 +83,7 @@ fn step_due(
     let k = r as u64;
     let mask = p.mask;
     if plan::has_resource(mask, k) {
-        let o = step(s, k, limit_facing(sense, q, r), keys, spare, ss);
+        let o = step::step(s, k, limit_facing(sense, q, r), keys, spare, ss);
         Passed {
             ok: o.ok,
             changed: some_touched(p.changed, o.touched),

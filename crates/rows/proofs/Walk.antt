@@ -22,38 +22,51 @@ use Rattle.rows.proofs.Changes.{touched-self, touched-put}
 no-plan : {X : Type 0} (us : List Task) → NoPlan ≡ Plan us → X
 no-plan us h = let q : _≡_ {A = ℕ} 0 1 = cc in absurd (omega arith)
 
+-- of the tasks ts, the first i are done, which made them us
+pub record Begun (ts : List Task) (i : ℕ) (us : List Task) (touched : ℕ) : Type 0 where
+  pub size : length us ≡ length ts
+  -- the others are as they were
+  pub rest : drop i us ≡ drop i ts
+  pub noted : touched ≡ touchedBy ts us
+
+pub begun-start : (ts : List Task) → Begun ts 0 ts 0
+begun-start ts = record { size = refl; rest = refl; noted = sym (touched-self ts) }
+
+-- the next task is still as it entered
+pub begun-next : (ts : List Task) (i : ℕ) (us : List Task) (touched : ℕ) → Begun ts i us touched → getD us i noTask ≡ getD ts i noTask
+begun-next ts i us touched w =
+    let e : i + 0 ≡ i = omega arith in
+    let a : getD (drop i us) 0 noTask ≡ getD us (i + 0) noTask = getD-drop i us 0 noTask in
+    let b : getD (drop i ts) 0 noTask ≡ getD ts (i + 0) noTask = getD-drop i ts 0 noTask in
+    let c : getD us (i + 0) noTask ≡ getD ts (i + 0) noTask = sym a ∙ ap (λ (l : List Task). getD l 0 noTask) (w .rest) ∙ b in
+    rw e at c
+
+-- one task more is put back
+pub begun-more : (ts : List Task) (i : ℕ) (us : List Task) (touched : ℕ) (u : Task) → i < length us → Begun ts i us touched
+    → Begun ts (i + 1) (set us i u) (if (sameTask (getD us i noTask) u) touched (union touched ((getD us i noTask) .set)))
+begun-more ts i us touched u l w =
+    record {
+      size = length-set us i u ∙ w .size;
+      rest = drop-set-lt (i + 1) us i u (omega arith) ∙ sym (drop-drop 1 i us) ∙ ap (drop 1) (w .rest) ∙ drop-drop 1 i ts;
+      noted = rw (w .noted) (sym (touched-put noTask u i ts us l (w .rest)));
+    }
+
 module _ (f : Task → Narrowed) (ts : List Task) where
-  -- of the tasks ts, the first i are done, which made them us
+  -- and what is left to do gives the answer
   pub record Walk (i : ℕ) (us : List Task) (touched : ℕ) : Type 0 where
-    pub size : length us ≡ length ts
-    -- the others are as they were
-    pub rest : drop i us ≡ drop i ts
-    -- what is left to do gives the answer
+    pub begun : Begun ts i us touched
     pub left : eachLeft f i us ≡ each f ts
-    pub noted : touched ≡ touchedBy ts us
 
   pub walk-start : Walk 0 ts 0
-  walk-start = record { size = refl; rest = refl; left = each-start f ts; noted = sym (touched-self ts) }
+  walk-start = record { begun = begun-start ts; left = each-start f ts }
 
-  -- the next task is still as it entered
   pub walk-next : (i : ℕ) (us : List Task) (touched : ℕ) → Walk i us touched → getD us i noTask ≡ getD ts i noTask
-  walk-next i us touched w =
-      let e : i + 0 ≡ i = omega arith in
-      let a : getD (drop i us) 0 noTask ≡ getD us (i + 0) noTask = getD-drop i us 0 noTask in
-      let b : getD (drop i ts) 0 noTask ≡ getD ts (i + 0) noTask = getD-drop i ts 0 noTask in
-      let c : getD us (i + 0) noTask ≡ getD ts (i + 0) noTask = sym a ∙ ap (λ (l : List Task). getD l 0 noTask) (w .rest) ∙ b in
-      rw e at c
+  walk-next i us touched w = begun-next ts i us touched (w .begun)
 
   pub walk-kept : (i : ℕ) (us : List Task) (touched : ℕ) (u : Task) → i < length us → f (getD us i noTask) ≡ Kept u → Walk i us touched
       → Walk (i + 1) (set us i u) (if (sameTask (getD us i noTask) u) touched (union touched ((getD us i noTask) .set)))
   walk-kept i us touched u l e w =
-      record {
-        size = length-set us i u ∙ w .size;
-        rest =
-            drop-set-lt (i + 1) us i u (omega arith) ∙ sym (drop-drop 1 i us) ∙ ap (drop 1) (w .rest) ∙ drop-drop 1 i ts;
-        left = each-kept f noTask u i us l e ∙ w .left;
-        noted = rw (w .noted) (sym (touched-put noTask u i ts us l (w .rest)));
-      }
+      record { begun = begun-more ts i us touched u l (w .begun); left = each-kept f noTask u i us l e ∙ w .left }
 
   pub walk-out : (i : ℕ) (us : List Task) (touched : ℕ) (v : Value) → i < length us → f (getD us i noTask) ≡ RanOut v → Walk i us touched → each f ts ≡ NoPlan
   walk-out i us touched v l e w = sym (w .left) ∙ each-out f noTask v i us l e

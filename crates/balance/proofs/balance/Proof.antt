@@ -87,7 +87,7 @@ returns-2 c =
     let b = c .before in
     let us = tasksOf (b .loop .s) in (
       sym (walk-end balanced (tasksOf (b .before .args .s .now)) (b .loop .i) us (b .loop .touched) (omega (arith, length-tasks (b .loop .s))) (b .loop .inv .2)),
-      λ h. b .loop .inv .2 .noted,
+      λ h. b .loop .inv .2 .begun .noted,
     )
 
 pub balance-spec : {M : Type 1} → statement M

@@ -64,12 +64,12 @@ step-requires c κs =
     let a = b .args in
     let k = known b in
     (
-      (
-        small b,
-        omega (arith, k .few, length-tasks (a .s .now)),
-        λ j l. fits-wide (length (qs b)) (getD (ts b) j noTask) (omega (arith, k .most)) (k .tasks noTask j l),
-        limit-fits (c .before .before .before),
-      ),
+      record {
+        place = small b;
+        few = k .few;
+        fit = λ j l. fits-wide (length (qs b)) (getD (ts b) j noTask) (omega (arith, k .most)) (k .tasks noTask j l);
+        limited = limit-fits (c .before .before .before);
+      },
       b .pre .1 .1,
     )
 

@@ -1,0 +1,2 @@
+-- Laws of the step over the list.
+pub mod Listed

@@ -1,0 +1,156 @@
+-- From the front: the first i tasks are done, the others as they entered; whatever the stretches tell of, what is left to do gives the answer.
+use borrow.Author.Needs.{needs}
+use native.Mathlib.Omega.{arith}
+use mathlib.Core.Path.{_≡_, refl, sym, ap, _∙_}
+use mathlib.Core.Bool.{false}
+use mathlib.Core.List.{List}
+use Prim.Native.Nat.{ℕ, _≤_, _<_, _-_}
+use lib.IntN.{ℤ}
+use lib.ListN.{length, getD}
+use Rattle.integers.proofs.Tests.{clash}
+use Rattle.plan.specs.declared.Task.{Task}
+use Rattle.plan.specs.declared.Narrowed.{Narrowed}
+use Rattle.plan.specs.declared.Narrowed.the-variants.{Kept, RanOut}
+use Rattle.rules.specs.Balance.{each}
+use Rattle.rules.specs.Step.{narrowed, listedDays}
+use Rattle.rules.proofs.Walk.{eachLeft, each-start, each-kept, each-out, each-end}
+use Rattle.rows.specs.View.{tasksOf, noTask}
+use Rattle.rows.specs.Fits.{Bounded}
+use Rattle.rows.proofs.View.{length-tasks}
+use Rattle.rows.proofs.Fits.{bounded-in}
+use Rattle.rows.proofs.Walk.{Begun, begun-start, begun-next, begun-more}
+use Rattle.stretches.specs.declared.Stretch.{Stretch}
+use Rattle.stretches.specs.View.{stretchesOf}
+use Rattle.step.specs.Asks.{Told}
+use Rattle.step.proofs.Listed.{next-narrowed}
+use Rattle.step.proofs.narrow_all.Statement.{statement}
+use Rattle.step.proofs.narrow_all.Tie as tie
+
+-- what is left to do gives the answer
+abbrev Left : ℕ → List Stretch → List Task → ℕ → List Task → Type 0
+Left r ss ts i us = (limit : ℤ → ℤ) → Told r limit ts ss → eachLeft (narrowed r limit ts (listedDays ts)) i us ≡ each (narrowed r limit ts (listedDays ts)) ts
+
+abbrev Inv-loop : tie.InvT-loop
+Inv-loop s₀ r ss touched₀ i₀ s touched i =
+    (i ≤ length s₀) × (length s ≡ length s₀) × Begun (tasksOf s₀) i (tasksOf s) touched × Left r (stretchesOf ss) (tasksOf s₀) i (tasksOf s)
+
+abbrev μ-loop : tie.MeasureT-loop
+μ-loop s₀ r ss touched₀ i₀ s touched i = length s₀ - i
+
+loop-holds : tie.Need-loop-holds Inv-loop μ-loop
+loop-holds c =
+    let ts = tasksOf (c .args .s .now) in
+    (omega arith, refl, begun-start ts, λ limit told. each-start (narrowed (c .args .r) limit ts (listedDays ts)) ts)
+
+task-at-requires : tie.Need-task-at-requires Inv-loop μ-loop
+task-at-requires c κs = search needs
+
+narrow-requires : tie.Need-narrow-requires Inv-loop μ-loop
+narrow-requires c κs =
+    let b = c .before .before .before in
+    let s = b .before .args .s .now in
+    let e = c .task-at .ensures ∙ begun-next (tasksOf s) (b .loop .i) (tasksOf (b .loop .s)) (b .loop .touched) (b .loop .inv .2) in
+    let l : b .loop .i < length (tasksOf s) = omega (arith, length-tasks s) in
+    record { place = b .before .pre .0; fits = rw e (bounded-in (getD (tasksOf s) (b .loop .i) noTask) (b .before .pre .1 (b .loop .i) l .ranges)) }
+
+-- what the page makes of the next task
+narrowed-next : (c : tie.After-narrow Inv-loop μ-loop) (limit : ℤ → ℤ)
+  → Told (c .before .before .before .before .before .args .r) limit (tasksOf (c .before .before .before .before .before .args .s .now)) (stretchesOf (c .before .before .before .before .before .args .ss .now))
+  → narrowed (c .before .before .before .before .before .args .r) limit (tasksOf (c .before .before .before .before .before .args .s .now)) (listedDays (tasksOf (c .before .before .before .before .before .args .s .now))) (getD (tasksOf (c .before .before .before .before .loop .s)) (c .before .before .before .before .loop .i) noTask) ≡ c .narrow .result
+narrowed-next c limit told =
+    let l = c .before .before .before .before in
+    let b = l .before in
+    let s = b .args .s .now in
+    let n = begun-next (tasksOf s) (l .loop .i) (tasksOf (l .loop .s)) (l .loop .touched) (l .loop .inv .2) in
+    let inside : l .loop .i < length (tasksOf s) = omega (arith, length-tasks s) in
+    rw n
+    (next-narrowed (b .args .r) (stretchesOf (b .args .ss .now)) (tasksOf s) (b .pre .1) (l .loop .i) inside (c .before .task-at .result) (c .before .task-at .ensures ∙ n) (c .narrow .result) (c .narrow .ensures) limit told)
+
+enum-known-u : tie.Need-enum-known-u Inv-loop μ-loop
+enum-known-u c = search needs
+
+put-changed-requires : tie.Need-put-changed-requires Inv-loop μ-loop
+put-changed-requires c κs = search needs
+
+enum-told : tie.Need-enum-told Inv-loop μ-loop
+enum-told c = search needs
+
+same-length : tie.Need-same-length Inv-loop μ-loop
+same-length c = omega arith
+
+returns : tie.Need-returns Inv-loop μ-loop
+returns c =
+    let l = c .before .before .before .before .before .before in
+    let b = l .before in
+    let ts = tasksOf (b .args .s .now) in
+    let us = tasksOf (l .loop .s) in
+    let h : l .loop .i < length us = omega (arith, length-tasks (l .loop .s)) in
+    let v = c .enum-told .given in
+    (
+      λ limit told.
+      sym (
+        sym (l .loop .inv .3 limit told)
+        ∙ each-out (narrowed (b .args .r) limit ts (listedDays ts)) noTask (v .0 .0) (l .loop .i) us h (narrowed-next (c .before .before) limit told ∙ v .1)
+      ),
+      λ h. clash false h refl,
+    )
+
+add-i : tie.Need-add-i Inv-loop μ-loop
+add-i c = omega arith
+
+loop-less : tie.Need-loop-less Inv-loop μ-loop
+loop-less c = omega arith
+
+loop-again : tie.Need-loop-again Inv-loop μ-loop
+loop-again c =
+    let l = c .before .before .before .before .before .before .before .before .before .before in
+    let b = l .before in
+    let ts = tasksOf (b .args .s .now) in
+    let us = tasksOf (l .loop .s) in
+    let h : l .loop .i < length us = omega (arith, length-tasks (l .loop .s)) in
+    let u = c .before .before .before .before .u .given in
+    let p = c .before .put-changed .ensures in
+    (
+      omega arith,
+      omega arith,
+      rw (p .0, p .1) (begun-more ts (l .loop .i) us (l .loop .touched) (u .0 .0) h (l .loop .inv .2)),
+      λ limit told.
+      rw (p .0)
+      (each-kept (narrowed (b .args .r) limit ts (listedDays ts)) noTask (u .0 .0) (l .loop .i) us h (narrowed-next (c .before .before .before .before .before .before) limit told ∙ u .1)
+      ∙ l .loop .inv .3 limit told),
+    )
+
+same-length-2 : tie.Need-same-length-2 Inv-loop μ-loop
+same-length-2 c = omega arith
+
+returns-2 : tie.Need-returns-2 Inv-loop μ-loop
+returns-2 c =
+    let l = c .before in
+    let b = l .before in
+    let ts = tasksOf (b .args .s .now) in
+    let us = tasksOf (l .loop .s) in
+    (
+      λ limit told.
+      sym (sym (l .loop .inv .3 limit told) ∙ each-end (narrowed (b .args .r) limit ts (listedDays ts)) (l .loop .i) us (omega (arith, length-tasks (l .loop .s)))),
+      λ h. l .loop .inv .2 .noted,
+    )
+
+pub narrow-all-spec : {M : Type 1} → statement M
+narrow-all-spec =
+    tie.close
+    (tie.spec
+    Inv-loop
+    μ-loop
+    loop-holds
+    task-at-requires
+    narrow-requires
+    enum-known-u
+    put-changed-requires
+    enum-told
+    same-length
+    returns
+    add-i
+    loop-less
+    loop-again
+    same-length-2
+    returns-2)

@@ -1,0 +1,2 @@
+-- What a resource step asks.
+pub mod Asks

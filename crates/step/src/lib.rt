@@ -1,0 +1,70 @@
+// The resource step over the list, sense at least: the days as stretches, then every task against them, each from the list as it entered.
+ghost use mathlib.Core.Path.{_≡_};
+ghost use mathlib.Core.Bool.{true};
+ghost use mathlib.Core.List.{List};
+ghost use Prim.Native.Nat.{ℕ, _<_};
+ghost use lib.IntN.{ℤ};
+ghost use lib.ListN.{length};
+ghost use Rattle.rules.specs.Balance.{each};
+ghost use Rattle.rules.specs.Step.{narrowed, listedDays, atLeastStep};
+ghost use Rattle.rows.specs.View.{tasksOf};
+ghost use Rattle.rows.specs.Changes.{outcomeOf, touchedBy};
+ghost use Rattle.rows.specs.Fits.{AllFit};
+ghost use Rattle.stretches.specs.View.{stretchesOf};
+ghost use Rattle.step.specs.Asks.{Asks, Roomy, Told};
+use plan::Narrowed;
+use plan::Power;
+use rows::Stepped;
+
+// Every task in list order, until a value runs out.
+fn narrow_all(s: &mut [[i64; 9]], r: u64, ss: &[[i64; 4]]) -> Stepped
+    requires { ⌜ (r < 64) × AllFit 64 (tasksOf (now s)) ⌝ }
+    ensures outcome { λ o. ⌜ ((limit : ℤ → ℤ) → Told r limit (tasksOf (now (s .entry))) (stretchesOf (now (ss .entry))) → outcomeOf (o .ok) (tasksOf (now (s .exit))) ≡ each (narrowed r limit (tasksOf (now (s .entry))) (listedDays (tasksOf (now (s .entry))))) (tasksOf (now (s .entry)))) ⌝ }
+    ensures touched { λ o. ⌜ (o .ok ≡ true → o .touched ≡ touchedBy (tasksOf (now (s .entry))) (tasksOf (now (s .exit)))) ⌝ }
+{
+    let mut touched: u64 = 0;
+    let mut i: usize = 0;
+    while i < s.len() {
+        let t = rows::task_at(s, i);
+        match narrow::narrow(ss, t, r) {
+            Narrowed::Kept(u) => {
+                touched = rows::put_changed(s, i, u, touched);
+            }
+            Narrowed::RanOut(_) => {
+                return Stepped {
+                    ok: false,
+                    touched: 0,
+                };
+            }
+        }
+        i += 1;
+    }
+    Stepped {
+        ok: true,
+        touched: touched,
+    }
+}
+
+pub fn step(
+    s: &mut [[i64; 9]],
+    r: u64,
+    limit: Power,
+    keys: &mut [u64],
+    spare: &mut [u64],
+    ss: &mut [[i64; 4]],
+) -> Stepped
+    requires { ⌜ Asks r limit (tasksOf (now s)) ⌝ }
+    requires { ⌜ Roomy (length (now keys)) (length (now spare)) (length (now ss)) ⌝ }
+    ensures outcome { λ o. ⌜ outcomeOf (o .ok) (tasksOf (now (s .exit))) ≡ atLeastStep r (λ i. limit .0) (tasksOf (now (s .entry))) ⌝ }
+    ensures touched { λ o. ⌜ (o .ok ≡ true → o .touched ≡ touchedBy (tasksOf (now (s .entry))) (tasksOf (now (s .exit)))) ⌝ }
+{
+    let p = profile::profile(s, r, limit, keys, spare, ss);
+    if p.short {
+        return Stepped {
+            ok: false,
+            touched: 0,
+        };
+    }
+    let n = p.stretches;
+    narrow_all(s, r, &ss[..n])
+}
