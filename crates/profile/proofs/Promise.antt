@@ -1,8 +1,8 @@
 -- The promise: the stretches swept from a resource's sorted events tell each of its tasks what the page says of its days.
-use mathlib.Core.Path.{_≡_, refl, sym, ap, _∙_, subst}
+use mathlib.Core.Path.{_≡_, refl, sym, _∙_}
 use mathlib.Core.Bool.{Bool, true, false, not}
-use mathlib.Core.List.{List, [], _∷_, _++_}
-use Prim.Native.Nat.{ℕ, zero, suc, _+_, _*_, _≤_, _<_, suc-le-suc, zero-le}
+use mathlib.Core.List.{List, [], _∷_}
+use Prim.Native.Nat.{ℕ, suc, _*_, _≤_, _<_, suc-le-suc, zero-le}
 use native.Mathlib.Omega.{arith}
 use lib.Dec.{ltb}
 use lib.IntN.{ℤ, pos, negsuc, negℤ, _+ℤ_, _-ℤ_}
@@ -10,11 +10,10 @@ use lib.ListN.{length, take, getD}
 use lib.Seq.{length-take-le, getD-take}
 use lib.Signed.{_≤ℤ_, _<ℤ_, leZ, ltZ}
 use borrow.Author.Tests.{ltb-true, ltb-false}
-use Rattle.integers.specs.Whole.{larger}
-use Rattle.integers.specs.Tests.{if, and, or, all, any}
+use Rattle.integers.specs.Tests.{and, or, any}
 use Rattle.integers.specs.Sums.{sumOf}
-use Rattle.integers.proofs.Z.{z, +z, -z, ~z, maxz, leZ-in, leZ-out, ltZ-in, ltZ-out, up, dn}
-use Rattle.integers.proofs.Tests.{clash, by-cases, false-in, same-test, and-first, and-second, and-in, or-first, or-second, or-left, not-out, any-out, not-any}
+use Rattle.integers.proofs.Z.{z, +z, -z, ~z, maxz, leZ-in, leZ-out, ltZ-in, ltZ-out}
+use Rattle.integers.proofs.Tests.{clash, by-cases, false-in, and-first, and-second, and-in, or-first, or-second, or-left, not-out, any-out, not-any}
 use Rattle.integers.proofs.Sums.{Near}
 use Rattle.plan.specs.declared.Task.{Task}
 use Rattle.plan.specs.Powers.{powerLow, powerHigh}
@@ -28,7 +27,7 @@ use Rattle.sorting.specs.Order.{Sorted}
 use Rattle.sorting.proofs.Every.{every}
 use Rattle.stretches.specs.declared.Stretch.{Stretch}
 use Rattle.stretches.specs.View.{noStretch, onDay}
-use Rattle.stretches.specs.Tells.{big, slackOn, tightOn, Quiet, Exact, Uncut, Ordered, Tells}
+use Rattle.stretches.specs.Tells.{big, slackOn, tightOn, Quiet, Exact, Uncut, Tells}
 use Rattle.profile.specs.declared.Common.{Common}
 use Rattle.profile.specs.declared.Level.{Level}
 use Rattle.profile.specs.Keys.{dayOf, powerOf, sureOf}
@@ -38,8 +37,8 @@ use Rattle.profile.specs.Promise.{Fitting, Bounded, FirstShort, Profile}
 use Rattle.profile.proofs.Fit.{Fit, fit-is}
 use Rattle.profile.proofs.Each.{Each, each-at, each-by, each-in, each-map, each-two, in-at}
 use Rattle.profile.proofs.Adds.{upTo, sureOne, keys-power, keys-sure, counts-is}
-use Rattle.profile.proofs.Spread.{levelOn, Told, Calm, Spread, on-first, on-last, on-in, chain-ordered, chain-rises, swept-spread}
-use Rattle.profile.proofs.Covers.{Covers, Over, common-over, common-covers, Dated, common-dated, keys-each, each-keys}
+use Rattle.profile.proofs.Spread.{levelOn, Told, Spread, on-first, on-last, on-in, chain-ordered, chain-rises, swept-spread}
+use Rattle.profile.proofs.Covers.{Covers, common-over, common-covers, common-dated, keys-each, each-keys}
 
 -- ---- a task on a day
 module _ (r : ℕ) (i : ℤ) (t : Task) where
@@ -154,9 +153,9 @@ unfolding surely running
 running-never r i t o e =
     false-in (running r i t)
     (λ w.
-      let a = and-first (leZ (t .origin .high .0) i) (ltZ i (t .end .low .0)) w in
-      let b = and-second (leZ (t .origin .high .0) i) (ltZ i (t .end .low .0)) w in
-      clash (surely r t) (and-in (only (t .set) r) (ltZ (t .origin .high .0) (t .end .low .0)) o (ltZ-in (t .origin .high .0) (t .end .low .0) (omega z))) e)
+    let a = and-first (leZ (t .origin .high .0) i) (ltZ i (t .end .low .0)) w in
+    let b = and-second (leZ (t .origin .high .0) i) (ltZ i (t .end .low .0)) w in
+    clash (surely r t) (and-in (only (t .set) r) (ltZ (t .origin .high .0) (t .end .low .0)) o (ltZ-in (t .origin .high .0) (t .end .low .0) (omega z))) e)
 
 same-run : (r : ℕ) (t : Task) (u : Stretch) → u .from .0 <ℤ u .to .0 → only (t .set) r ≡ true →
     (surely r t ≡ true → (or (leZ (t .origin .high .0) (u .from .0)) (leZ (u .to .0) (t .origin .high .0)) ≡ true) × (or (leZ (t .end .low .0) (u .from .0)) (leZ (u .to .0) (t .end .low .0)) ≡ true)) →
@@ -194,14 +193,13 @@ module _ (r : ℕ) (x : ℤ) (ts : List Task) (f : Each Fit ts) (ls : List ℕ) 
       keys-each (λ d. leZ (here .low .0) d ≡ true) r ts f
       (each-two Fit _ _
       (λ t a b g.
-        let c = b g in
-        let l = c .low in
-        let o = a .origin in
-        let e = a .end in
-        (
-          (λ p. (leZ-in (here .low .0) (t .origin .low .0) l, leZ-in (here .low .0) (t .end .high .0) (let w = and-second (ltZ (pos 0) (t .height .high .0)) (ltZ (t .origin .low .0) (t .end .high .0)) p in omega z))),
-          (λ q. (leZ-in (here .low .0) (t .origin .high .0) (omega z), leZ-in (here .low .0) (t .end .low .0) (let w = and-second (only (t .set) r) (ltZ (t .origin .high .0) (t .end .low .0)) q in omega z)))
-        ))
+      let c = b g in
+      let l = c .low in
+      let o = a .origin in
+      let e = a .end in (
+        (λ p. (leZ-in (here .low .0) (t .origin .low .0) l, leZ-in (here .low .0) (t .end .high .0) (let w = and-second (ltZ (pos 0) (t .height .high .0)) (ltZ (t .origin .low .0) (t .end .high .0)) p in omega z))),
+        (λ q. (leZ-in (here .low .0) (t .origin .high .0) (omega z), leZ-in (here .low .0) (t .end .low .0) (let w = and-second (only (t .set) r) (ltZ (t .origin .high .0) (t .end .low .0)) q in omega z))),
+      ))
       ts f (common-covers r nobody ts))
 
   keys-last : Each (λ k. leZ (dayOf k) (here .high .0) ≡ true) (keysOf r ts)
@@ -210,14 +208,13 @@ module _ (r : ℕ) (x : ℤ) (ts : List Task) (f : Each Fit ts) (ls : List ℕ) 
       keys-each (λ d. leZ d (here .high .0) ≡ true) r ts f
       (each-two Fit _ _
       (λ t a b g.
-        let c = b g in
-        let l = c .high in
-        let o = a .origin in
-        let e = a .end in
-        (
-          (λ p. (leZ-in (t .origin .low .0) (here .high .0) (let w = and-second (ltZ (pos 0) (t .height .high .0)) (ltZ (t .origin .low .0) (t .end .high .0)) p in omega z), leZ-in (t .end .high .0) (here .high .0) l)),
-          (λ q. (leZ-in (t .origin .high .0) (here .high .0) (let w = and-second (only (t .set) r) (ltZ (t .origin .high .0) (t .end .low .0)) q in omega z), leZ-in (t .end .low .0) (here .high .0) (omega z)))
-        ))
+      let c = b g in
+      let l = c .high in
+      let o = a .origin in
+      let e = a .end in (
+        (λ p. (leZ-in (t .origin .low .0) (here .high .0) (let w = and-second (ltZ (pos 0) (t .height .high .0)) (ltZ (t .origin .low .0) (t .end .high .0)) p in omega z), leZ-in (t .end .high .0) (here .high .0) l)),
+        (λ q. (leZ-in (t .origin .high .0) (here .high .0) (let w = and-second (only (t .set) r) (ltZ (t .origin .high .0) (t .end .low .0)) q in omega z), leZ-in (t .end .low .0) (here .high .0) (omega z))),
+      ))
       ts f (common-covers r nobody ts))
 
   spread : Spread here (here .low .0) (levelOn start ls) ls told
@@ -275,17 +272,19 @@ module _ (r : ℕ) (x : ℤ) (ts : List Task) (f : Each Fit ts) (ls : List ℕ) 
     unbarred =
         by-cases (possible r i t)
         (λ p.
-          let h = t .height .high .0 in
-          let c = covered k (possible-has r i t p) .bar in
-          let l = calm p .0 in
-          rw (p,
-            ltZ-out ((total r ts i -ℤ hope r i t) +ℤ h) x
-            (by-cases (sure r i t)
-            (λ e. let g = hope-sure r i t (fit k) e in omega (z, maxz (pos 0) (negℤ h), ~z h, -z (total r ts i) (hope r i t), +z (total r ts i -ℤ hope r i t) h, -z (total r ts i) x))
-            (λ e.
+        let h = t .height .high .0 in
+        let c = covered k (possible-has r i t p) .bar in
+        let l = calm p .0 in
+        rw (
+          p,
+          ltZ-out ((total r ts i -ℤ hope r i t) +ℤ h) x
+              (by-cases (sure r i t)
+              (λ e. let g = hope-sure r i t (fit k) e in omega (z, maxz (pos 0) (negℤ h), ~z h, -z (total r ts i) (hope r i t), +z (total r ts i -ℤ hope r i t) h, -z (total r ts i) x))
+              (λ e.
               by-cases (ltZ (pos 0) h)
               (λ q. let g = hope-positive r i t q p in omega (z, maxz (pos 0) (negℤ h), ~z h, -z (total r ts i) (hope r i t), +z (total r ts i -ℤ hope r i t) h, -z (total r ts i) x))
-              (λ q. let g = hope-none r i t q e in omega (z, maxz (pos 0) (negℤ h), ~z h, -z (total r ts i) (hope r i t), +z (total r ts i -ℤ hope r i t) h, -z (total r ts i) x))))))
+              (λ q. let g = hope-none r i t q e in omega (z, maxz (pos 0) (negℤ h), ~z h, -z (total r ts i) (hope r i t), +z (total r ts i -ℤ hope r i t) h, -z (total r ts i) x)))),
+        ))
         (λ p. rw p)
 
     unneeded : needed r limit ts t i ≡ false
@@ -293,18 +292,18 @@ module _ (r : ℕ) (x : ℤ) (ts : List Task) (f : Each Fit ts) (ls : List ℕ) 
     unneeded =
         by-cases (counts r ts i)
         (λ c.
-          by-cases (possible r i t)
-          (λ p.
-            by-cases (ltZ (pos 0) (t .height .high .0))
-            (λ q.
-              let h = t .height .high .0 in
-              let m = t .height .low .0 in
-              let l = covered k (possible-has r i t p) .lift in
-              let n = calm-tight p c in
-              let g = hope-positive r i t q p in
-              rw (c, p, q, ltZ-out (total r ts i -ℤ hope r i t) x (omega (z, maxz h (h -ℤ m), -z h m, -z (total r ts i) (hope r i t), -z (total r ts i) x))))
-            (λ q. rw (c, p, q)))
-          (λ p. rw (c, p)))
+        by-cases (possible r i t)
+        (λ p.
+        by-cases (ltZ (pos 0) (t .height .high .0))
+        (λ q.
+        let h = t .height .high .0 in
+        let m = t .height .low .0 in
+        let l = covered k (possible-has r i t p) .lift in
+        let n = calm-tight p c in
+        let g = hope-positive r i t q p in
+        rw (c, p, q, ltZ-out (total r ts i -ℤ hope r i t) x (omega (z, maxz h (h -ℤ m), -z h m, -z (total r ts i) (hope r i t), -z (total r ts i) x))))
+        (λ q. rw (c, p, q)))
+        (λ p. rw (c, p)))
         (λ c. rw c)
 
     unlifted : sure r i t ≡ true → (x -ℤ others r ts t i) ≤ℤ t .height .low .0
@@ -362,9 +361,9 @@ module _ (r : ℕ) (x : ℤ) (ts : List Task) (f : Each Fit ts) (ls : List ℕ) 
       let p = sure-possible r i (c .0) (fit (c .1)) (c .2) in
       by-cases (any (shortfall r limit ts) (listedDays ts)) (λ a. a)
       (λ a.
-        clash (shortfall r limit ts i) e
-        (not-out (shortfall r limit ts i)
-        (listed r (λ d. not (shortfall r limit ts d)) (c .0) ts (c .1) (not-any (shortfall r limit ts) (listedDays ts) a) i (possible-first r i (c .0) p) (possible-last r i (c .0) p))))
+      clash (shortfall r limit ts i) e
+      (not-out (shortfall r limit ts i)
+      (listed r (λ d. not (shortfall r limit ts d)) (c .0) ts (c .1) (not-any (shortfall r limit ts) (listedDays ts) a) i (possible-first r i (c .0) p) (possible-last r i (c .0) p))))
 
   -- and it lies in a stretch
   short-told : (i : ℤ) → shortfall r limit ts i ≡ true → any (onDay i) told ≡ true
@@ -406,13 +405,13 @@ module _ (r : ℕ) (x : ℤ) (ts : List Task) (f : Each Fit ts) (ls : List ℕ) 
   short-first k w h i l =
       false-in (shortfall r limit ts i)
       (λ e.
-        let o = on-told i (short-told i e) in
-        let t = told-at (o .0) (o .1) .tight i (o .2) ∙ tight-is i in
-        let m = short-tight i e in
-        let a = on-first i (getD told (o .0) noStretch) (o .2) in
-        by-cases (ltb (o .0) k)
-        (λ g. let b = w .before (o .0) (ltb-true (o .0) k g) in omega z)
-        (λ g. let b = chain-rises (here .low .0) told (spread .chain) k (o .0) (ltb-false (o .0) k g) (o .1) in omega z))
+      let o = on-told i (short-told i e) in
+      let t = told-at (o .0) (o .1) .tight i (o .2) ∙ tight-is i in
+      let m = short-tight i e in
+      let a = on-first i (getD told (o .0) noStretch) (o .2) in
+      by-cases (ltb (o .0) k)
+      (λ g. let b = w .before (o .0) (ltb-true (o .0) k g) in omega z)
+      (λ g. let b = chain-rises (here .low .0) told (spread .chain) k (o .0) (ltb-false (o .0) k g) (o .1) in omega z))
 
   -- ---- bounds
   tight-bounds : (i : ℤ) → slackOn r limit ts i ≤ℤ pos 300000000 → (slackOn r limit ts i ≤ℤ tightOn r limit ts i) × (tightOn r limit ts i ≤ℤ big)
