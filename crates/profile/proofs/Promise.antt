@@ -446,7 +446,13 @@ module _ (r : ℕ) (x : ℤ) (ts : List Task) (f : Each Fit ts) (ls : List ℕ) 
       }
 
   profile-of : length ts ≤ 256 → powerLow ≤ℤ x → x ≤ℤ powerHigh → (k : ℕ) → FirstShort told k → Profile r limit ts told (ltb k (length told))
-  profile-of h a b k w = record { bounded = bounded h a b; shortfall = short-is k w; tells = λ q l. tells (in-at noTask ts q l) }
+  profile-of h a b k w =
+      record {
+        bounded = bounded h a b;
+        short-is = short-is k w;
+        day = λ q v l. record { holds = short-there q v l; first = short-first q v l };
+        tells = λ q l. tells (in-at noTask ts q l);
+      }
 
 -- ---- as the code has them: the events in the first keys, the stretches in the first rows
 pub profiled : (r : ℕ) (x : ℤ) (ts : List Task) (ks : List ℕ) (c : Common) (ss : List Stretch) (m k : ℕ) →
