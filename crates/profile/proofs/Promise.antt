@@ -1,8 +1,8 @@
 -- The promise: the stretches swept from a resource's sorted events tell each of its tasks what the page says of its days.
-use mathlib.Core.Path.{_≡_, refl, sym, _∙_}
+use mathlib.Core.Path.{_≡_, sym, _∙_}
 use mathlib.Core.Bool.{Bool, true, false, not}
-use mathlib.Core.List.{List, [], _∷_}
-use Prim.Native.Nat.{ℕ, suc, _*_, _≤_, _<_, suc-le-suc, zero-le}
+use mathlib.Core.List.{List}
+use Prim.Native.Nat.{ℕ, _≤_, _<_}
 use native.Mathlib.Omega.{arith}
 use lib.Dec.{ltb}
 use lib.IntN.{ℤ, pos, negsuc, negℤ, _+ℤ_, _-ℤ_}
@@ -10,18 +10,16 @@ use lib.ListN.{length, take, getD}
 use lib.Seq.{length-take-le, getD-take}
 use lib.Signed.{_≤ℤ_, _<ℤ_, leZ, ltZ}
 use borrow.Author.Tests.{ltb-true, ltb-false}
-use Rattle.integers.specs.Tests.{and, or, any}
+use Rattle.integers.specs.Tests.{or, any}
 use Rattle.integers.specs.Sums.{sumOf}
 use Rattle.integers.proofs.Z.{z, +z, -z, ~z, maxz, leZ-in, leZ-out, ltZ-in, ltZ-out}
-use Rattle.integers.proofs.Tests.{clash, by-cases, false-in, and-first, and-second, and-in, or-first, or-second, or-left, not-out, any-out, not-any}
-use Rattle.integers.proofs.Sums.{Near}
+use Rattle.integers.proofs.Tests.{clash, by-cases, false-in, and-first, and-second, and-in, or-left, not-out, any-out, not-any}
 use Rattle.plan.specs.declared.Task.{Task}
 use Rattle.plan.specs.Powers.{powerLow, powerHigh}
 use Rattle.plan.specs.Sets.{has, only}
 use Rattle.plan.proofs.Sets.{only-is, has-alone}
 use Rattle.rules.specs.Step.{possible, running, sure, hope, total, others, counts, shortfall, needed, barred, listedDays}
 use Rattle.rules.proofs.Days.{In, listed}
-use Rattle.rules.proofs.Days.In.{head, tail}
 use Rattle.rows.specs.View.{noTask}
 use Rattle.sorting.specs.Order.{Sorted}
 use Rattle.sorting.proofs.Every.{every}
@@ -35,93 +33,11 @@ use Rattle.profile.specs.Events.{hopeful, surely, keysOf, barOf, liftOf,
 use Rattle.profile.specs.Sweep.{level, tightIn, swept, Sweeps}
 use Rattle.profile.specs.Promise.{Fitting, Bounded, FirstShort, Profile}
 use Rattle.profile.proofs.Fit.{Fit, fit-is}
-use Rattle.profile.proofs.Each.{Each, each-at, each-by, each-in, each-map, each-two, in-at}
+use Rattle.profile.proofs.Each.{Each, each-at, each-by, each-in, each-map, each-two, in-at, any-at}
 use Rattle.profile.proofs.Adds.{upTo, sureOne, keys-power, keys-sure, counts-is}
+use Rattle.profile.proofs.OnDay.{possible-has, possible-first, possible-last, sure-possible, hope-positive, hope-sure, hope-none, counts-in, counts-out, total-near}
 use Rattle.profile.proofs.Spread.{levelOn, Told, Spread, on-first, on-last, on-in, chain-ordered, chain-rises, swept-spread}
 use Rattle.profile.proofs.Covers.{Covers, common-over, common-covers, common-dated, keys-each, each-keys}
-
--- ---- a task on a day
-module _ (r : ℕ) (i : ℤ) (t : Task) where
-  possible-has : possible r i t ≡ true → has (t .set) r ≡ true
-  unfolding possible
-  possible-has e = and-first (has (t .set) r) (and (leZ (t .origin .low .0) i) (ltZ i (t .end .high .0))) e
-
-  possible-first : possible r i t ≡ true → t .origin .low .0 ≤ℤ i
-  unfolding possible
-  possible-first e =
-      let w = and-second (has (t .set) r) (and (leZ (t .origin .low .0) i) (ltZ i (t .end .high .0))) e in
-      let a = and-first (leZ (t .origin .low .0) i) (ltZ i (t .end .high .0)) w in
-      omega z
-
-  possible-last : possible r i t ≡ true → i <ℤ t .end .high .0
-  unfolding possible
-  possible-last e =
-      let w = and-second (has (t .set) r) (and (leZ (t .origin .low .0) i) (ltZ i (t .end .high .0))) e in
-      let a = and-second (leZ (t .origin .low .0) i) (ltZ i (t .end .high .0)) w in
-      omega z
-
-  -- a sure day is a possible one
-  sure-possible : Fit t → sure r i t ≡ true → possible r i t ≡ true
-  unfolding possible sure running
-  sure-possible f e =
-      let o = only-is (t .set) r (and-first (only (t .set) r) (running r i t) e) in
-      let w = and-second (only (t .set) r) (running r i t) e in
-      let a = and-first (leZ (t .origin .high .0) i) (ltZ i (t .end .low .0)) w in
-      let b = and-second (leZ (t .origin .high .0) i) (ltZ i (t .end .low .0)) w in
-      let x = f .origin in
-      let y = f .end in
-      and-in (has (t .set) r) (and (leZ (t .origin .low .0) i) (ltZ i (t .end .high .0))) (rw o (has-alone r))
-      (and-in (leZ (t .origin .low .0) i) (ltZ i (t .end .high .0)) (leZ-in (t .origin .low .0) i (omega z)) (ltZ-in i (t .end .high .0) (omega z)))
-
-  -- the hope: all of a positive height on a possible day, all of any other on a sure day
-  hope-positive : ltZ (pos 0) (t .height .high .0) ≡ true → possible r i t ≡ true → hope r i t ≡ t .height .high .0
-  unfolding hope
-  hope-positive e p = rw (e, p)
-
-  hope-sure : Fit t → sure r i t ≡ true → hope r i t ≡ t .height .high .0
-  unfolding hope
-  hope-sure f s = by-cases (ltZ (pos 0) (t .height .high .0)) (λ e. rw (e, sure-possible f s)) (λ e. rw (e, s))
-
-  hope-none : ltZ (pos 0) (t .height .high .0) ≡ false → sure r i t ≡ false → hope r i t ≡ pos 0
-  unfolding hope
-  hope-none e s = rw (e, s)
-
-  hope-near : Fit t → Near 1000000 (hope r i t)
-  unfolding hope
-  hope-near f =
-      let h = f .height in
-      by-cases (ltZ (pos 0) (t .height .high .0))
-      (λ e. by-cases (possible r i t) (λ p. rw (e, p) (record { over = omega z; under = omega z })) (λ p. rw (e, p) (record { over = omega z; under = omega z })))
-      (λ e. by-cases (sure r i t) (λ p. rw (e, p) (record { over = omega z; under = omega z })) (λ p. rw (e, p) (record { over = omega z; under = omega z })))
-
--- ---- all tasks on a day
-module _ (r : ℕ) (i : ℤ) where
-  counts-in : {t : Task} {ts : List Task} → In t ts → sure r i t ≡ true → counts r ts i ≡ true
-  unfolding counts any
-  counts-in {t} (head {ts}) s = or-first (sure r i t) (any (sure r i) ts) s
-  counts-in (tail {u} {ts} k) s = or-second (sure r i u) (any (sure r i) ts) (counts-in k s)
-
-  counts-out : (ts : List Task) → counts r ts i ≡ true → (t : Task) × In t ts × (sure r i t ≡ true)
-  unfolding counts any
-  counts-out [] h = clash false h refl
-  counts-out (t ∷ ts) h =
-      by-cases (sure r i t) (λ e. (t, head, e))
-      (λ e. let q = counts-out ts (sym (or-left (sure r i t) (any (sure r i) ts) e) ∙ h) in (q .0, tail (q .1), q .2))
-
-  total-near : (ts : List Task) → Each Fit ts → Near (length ts * 1000000) (total r ts i)
-  unfolding total sumOf Each
-  total-near [] f = record { over = omega arith; under = omega arith }
-  total-near (t ∷ ts) f =
-      let a = hope-near r i t (f .0) in
-      let b = total-near ts (f .1) in
-      record { over = omega (z, +z (hope r i t) (sumOf (hope r i) ts)); under = omega (z, +z (hope r i t) (sumOf (hope r i) ts)) }
-
-any-at : {A : Type 0} (p : A → Bool) (d : A) (xs : List A) → any p xs ≡ true → (q : ℕ) × (q < length xs) × (p (getD xs q d) ≡ true)
-unfolding any
-any-at p d [] e = clash false e refl
-any-at p d (y ∷ ys) e =
-    by-cases (p y) (λ g. (0, suc-le-suc zero-le, g))
-    (λ g. let w = any-at p d ys (sym (or-left (p y) (any p ys) g) ∙ e) in (suc (w .0), suc-le-suc (w .1), w .2))
 
 -- ---- keys in another order
 each-sorted : (p : ℕ → Bool) (xs ys : List ℕ) → ((g : ℕ → ℤ) → sumOf g ys ≡ sumOf g xs) → Each (λ k. p k ≡ true) xs → Each (λ k. p k ≡ true) ys
@@ -222,6 +138,9 @@ module _ (r : ℕ) (x : ℤ) (ts : List Task) (f : Each Fit ts) (ls : List ℕ) 
       swept-spread here (here .low .0) start 0 ls (s .rises)
       (each-map _ (λ k. here .low .0 ≤ℤ dayOf k) (λ k e. omega z) ls (each-sorted (λ k. leZ (here .low .0) (dayOf k)) (keysOf r ts) ls (s .sums) keys-first))
       (each-map _ (λ k. dayOf k ≤ℤ here .high .0) (λ k e. omega z) ls (each-sorted (λ k. leZ (dayOf k) (here .high .0)) (keysOf r ts) ls (s .sums) keys-last))
+
+  told-at : (q : ℕ) → q < length told → Told (levelOn start ls) ls (here .low .0) (here .high .0) (getD told q noStretch)
+  told-at q h = each-at (Told (levelOn start ls) ls (here .low .0) (here .high .0)) noStretch told (spread .told) q h
 
   -- the levels are the page's slack, and its slack where a day counts
   slack-is : (i : ℤ) → levelOn start ls i .slack .0 ≡ slackOn r limit ts i
@@ -324,8 +243,8 @@ module _ (r : ℕ) (x : ℤ) (ts : List Task) (f : Each Fit ts) (ls : List ℕ) 
   tells {t} k =
       record {
         ordered = chain-ordered (here .low .0) told (spread .chain);
-        exact = λ q h. exact (getD told q noStretch) (each-at (Told (levelOn start ls) ls (here .low .0) (here .high .0)) noStretch told (spread .told) q h);
-        uncut = λ q h. uncut k (getD told q noStretch) (each-at (Told (levelOn start ls) ls (here .low .0) (here .high .0)) noStretch told (spread .told) q h);
+        exact = λ q h. exact (getD told q noStretch) (told-at q h);
+        uncut = λ q h. uncut k (getD told q noStretch) (told-at q h);
         quiet = λ i off. quiet k i off;
       }
 
@@ -333,9 +252,6 @@ module _ (r : ℕ) (x : ℤ) (ts : List Task) (f : Each Fit ts) (ls : List ℕ) 
   -- a day in a stretch, and that stretch
   on-told : (i : ℤ) → any (onDay i) told ≡ true → (q : ℕ) × (q < length told) × (onDay i (getD told q noStretch) ≡ true)
   on-told i e = any-at (onDay i) noStretch told e
-
-  told-at : (q : ℕ) → q < length told → Told (levelOn start ls) ls (here .low .0) (here .high .0) (getD told q noStretch)
-  told-at q h = each-at (Told (levelOn start ls) ls (here .low .0) (here .high .0)) noStretch told (spread .told) q h
 
   tight-short : (i : ℤ) → tightOn r limit ts i <ℤ pos 0 → shortfall r limit ts i ≡ true
   unfolding tightOn slackOn shortfall
