@@ -1,14 +1,14 @@
 -- What a resource's events add up to on a day: its tasks' hopes, and how many of them are sure.
-use mathlib.Core.Path.{_≡_, refl, sym, ap, _∙_}
+use mathlib.Core.Path.{_≡_, refl, sym, _∙_}
 use mathlib.Core.Bool.{Bool, true, false}
-use mathlib.Core.List.{List, [], _∷_, _++_}
+use mathlib.Core.List.{List, [], _∷_}
 use Prim.Native.Nat.{ℕ}
-use lib.IntN.{ℤ, pos, negsuc, negℤ, _+ℤ_, _-ℤ_}
+use lib.IntN.{ℤ, pos, negsuc, negℤ, _+ℤ_}
 use lib.Signed.{_≤ℤ_, _<ℤ_, leZ, ltZ}
-use Rattle.integers.specs.Tests.{if, and, or, any}
+use Rattle.integers.specs.Tests.{if, and, any}
 use Rattle.integers.specs.Sums.{sumOf}
-use Rattle.integers.proofs.Z.{z, +z, -z, ~z, leZ-in, leZ-out, ltZ-in, ltZ-out}
-use Rattle.integers.proofs.Tests.{clash, by-cases, false-in, same-test, and-first, and-second, and-in, or-first, or-second, or-left}
+use Rattle.integers.proofs.Z.{z, +z, ~z, leZ-in, leZ-out, ltZ-in}
+use Rattle.integers.proofs.Tests.{clash, by-cases, false-in, and-first, and-second, and-in}
 use Rattle.integers.proofs.Sums.{sum-append}
 use Rattle.plan.specs.declared.Task.{Task}
 use Rattle.plan.specs.Sets.{has, only}
@@ -38,9 +38,9 @@ unfolding sumOf
 pair-sum f k l i x a b p q u v h =
     by-cases (leZ a i)
     (λ e.
-      by-cases (ltZ i b)
-      (λ g. rw (p, q, e, g, leZ-out b i (omega z), u) (omega (z, +z (pos 0) (pos 0), +z x (pos 0 +ℤ pos 0))))
-      (λ g. rw (p, q, e, g, leZ-in b i (omega z), u, v) (omega (z, ~z x, +z (negℤ x) (pos 0), +z x (negℤ x +ℤ pos 0)))))
+    by-cases (ltZ i b)
+    (λ g. rw (p, q, e, g, leZ-out b i (omega z), u) (omega (z, +z (pos 0) (pos 0), +z x (pos 0 +ℤ pos 0))))
+    (λ g. rw (p, q, e, g, leZ-in b i (omega z), u, v) (omega (z, ~z x, +z (negℤ x) (pos 0), +z x (negℤ x +ℤ pos 0)))))
     (λ e. rw (p, q, e, leZ-out b i (omega z)))
 
 module _ (a b p u i : ℤ) (f : ChangeFits (change a b p u)) (h : a ≤ℤ b) where
@@ -82,11 +82,11 @@ module _ (r : ℕ) (i : ℤ) (t : Task) where
   sure-never e =
       false-in (sure r i t)
       (λ g.
-        let o = and-first (only (t .set) r) (running r i t) g in
-        let w = and-second (only (t .set) r) (running r i t) g in
-        let x = and-first (leZ (t .origin .high .0) i) (ltZ i (t .end .low .0)) w in
-        let y = and-second (leZ (t .origin .high .0) i) (ltZ i (t .end .low .0)) w in
-        clash (surely r t) (and-in (only (t .set) r) (ltZ (t .origin .high .0) (t .end .low .0)) o (ltZ-in (t .origin .high .0) (t .end .low .0) (omega z))) e)
+      let o = and-first (only (t .set) r) (running r i t) g in
+      let w = and-second (only (t .set) r) (running r i t) g in
+      let x = and-first (leZ (t .origin .high .0) i) (ltZ i (t .end .low .0)) w in
+      let y = and-second (leZ (t .origin .high .0) i) (ltZ i (t .end .low .0)) w in
+      clash (surely r t) (and-in (only (t .set) r) (ltZ (t .origin .high .0) (t .end .low .0)) o (ltZ-in (t .origin .high .0) (t .end .low .0) (omega z))) e)
 
   -- a task that may not stand here
   module _ (g : has (t .set) r ≡ false) where
@@ -136,9 +136,9 @@ module _ (r : ℕ) (i : ℤ) (t : Task) where
     not-between p h =
         false-in (between (t .origin .low .0) (t .end .high .0) i)
         (λ b.
-          let x = and-first (leZ (t .origin .low .0) i) (ltZ i (t .end .high .0)) b in
-          let y = and-second (leZ (t .origin .low .0) i) (ltZ i (t .end .high .0)) b in
-          clash (hopeful t) (and-in (ltZ (pos 0) high) (ltZ (t .origin .low .0) (t .end .high .0)) h (ltZ-in (t .origin .low .0) (t .end .high .0) (omega z))) p)
+        let x = and-first (leZ (t .origin .low .0) i) (ltZ i (t .end .high .0)) b in
+        let y = and-second (leZ (t .origin .low .0) i) (ltZ i (t .end .high .0)) b in
+        clash (hopeful t) (and-in (ltZ (pos 0) high) (ltZ (t .origin .low .0) (t .end .high .0)) h (ltZ-in (t .origin .low .0) (t .end .high .0) (omega z))) p)
 
     -- where the days are fixed, the possible days are the sure ones
     pub fixed-low : fixed t ≡ true → t .origin .low .0 ≡ t .origin .high .0
@@ -181,42 +181,42 @@ module _ (r : ℕ) (i : ℤ) (t : Task) where
     task-power =
         by-cases (hopeful t)
         (λ p.
-          by-cases (surely r t)
-          (λ q.
-            by-cases (fixed t)
-            (λ w. rw (p, q, w) (hope-power (pos 1) (omega z) (omega z) p))
-            (λ w.
-              rw (p, q, w)
-              (sum-append (upTo powerOf i) (hopeOver t (pos 0)) (sureOver t (pos 0))
-              ∙ rw (hope-power (pos 0) (omega z) (omega z) p, sure-power (pos 0) (omega z) (omega z) q, if-same (sure r i t) (pos 0)) (omega (z, +z (hope r i t) (pos 0))))))
-          (λ q. rw (p, q) (hope-power (pos 0) (omega z) (omega z) p)))
+        by-cases (surely r t)
+        (λ q.
+        by-cases (fixed t)
+        (λ w. rw (p, q, w) (hope-power (pos 1) (omega z) (omega z) p))
+        (λ w.
+        rw (p, q, w)
+        (sum-append (upTo powerOf i) (hopeOver t (pos 0)) (sureOver t (pos 0))
+        ∙ rw (hope-power (pos 0) (omega z) (omega z) p, sure-power (pos 0) (omega z) (omega z) q, if-same (sure r i t) (pos 0)) (omega (z, +z (hope r i t) (pos 0))))))
+        (λ q. rw (p, q) (hope-power (pos 0) (omega z) (omega z) p)))
         (λ p.
-          by-cases (surely r t)
-          (λ q. let h = f .height in rw (p, q) (sure-power high (omega z) (omega z) q ∙ sym (hope-low (not-positive p q))))
-          (λ q.
-            rw (p, q)
-            (by-cases (ltZ (pos 0) high)
-            (λ h. sym (hope-high h g ∙ rw (not-between p h)))
-            (λ h. sym (hope-low h ∙ rw (sure-never q))))))
+        by-cases (surely r t)
+        (λ q. let h = f .height in rw (p, q) (sure-power high (omega z) (omega z) q ∙ sym (hope-low (not-positive p q))))
+        (λ q.
+        rw (p, q)
+        (by-cases (ltZ (pos 0) high)
+        (λ h. sym (hope-high h g ∙ rw (not-between p h)))
+        (λ h. sym (hope-low h ∙ rw (sure-never q))))))
 
     task-sure : sumOf (upTo sureOf i) (taskKeys r t) ≡ sureOne r i t
     unfolding taskKeys sumOf
     task-sure =
         by-cases (hopeful t)
         (λ p.
-          by-cases (surely r t)
-          (λ q.
-            by-cases (fixed t)
-            (λ w. rw (p, q, w) (hope-sure (pos 1) (omega z) (omega z) p ∙ rw (sure-here (sure-only q), fixed-low w, fixed-high w)))
-            (λ w.
-              rw (p, q, w)
-              (sum-append (upTo sureOf i) (hopeOver t (pos 0)) (sureOver t (pos 0))
-              ∙ rw (hope-sure (pos 0) (omega z) (omega z) p, sure-sure (pos 0) (omega z) (omega z) q, if-same (between (t .origin .low .0) (t .end .high .0) i) (pos 0)) (omega (z, +z (pos 0) (sureOne r i t))))))
-          (λ q. rw (p, q) (hope-sure (pos 0) (omega z) (omega z) p ∙ rw (if-same (between (t .origin .low .0) (t .end .high .0) i) (pos 0), sure-never q))))
+        by-cases (surely r t)
+        (λ q.
+        by-cases (fixed t)
+        (λ w. rw (p, q, w) (hope-sure (pos 1) (omega z) (omega z) p ∙ rw (sure-here (sure-only q), fixed-low w, fixed-high w)))
+        (λ w.
+        rw (p, q, w)
+        (sum-append (upTo sureOf i) (hopeOver t (pos 0)) (sureOver t (pos 0))
+        ∙ rw (hope-sure (pos 0) (omega z) (omega z) p, sure-sure (pos 0) (omega z) (omega z) q, if-same (between (t .origin .low .0) (t .end .high .0) i) (pos 0)) (omega (z, +z (pos 0) (sureOne r i t))))))
+        (λ q. rw (p, q) (hope-sure (pos 0) (omega z) (omega z) p ∙ rw (if-same (between (t .origin .low .0) (t .end .high .0) i) (pos 0), sure-never q))))
         (λ p.
-          by-cases (surely r t)
-          (λ q. let h = f .height in rw (p, q) (sure-sure high (omega z) (omega z) q))
-          (λ q. rw (p, q, sure-never q)))
+        by-cases (surely r t)
+        (λ q. let h = f .height in rw (p, q) (sure-sure high (omega z) (omega z) q))
+        (λ q. rw (p, q, sure-never q)))
 
   events-power : Fit t → sumOf (upTo powerOf i) (eventsOf r t) ≡ hope r i t
   unfolding eventsOf sumOf
@@ -256,5 +256,5 @@ module _ (r : ℕ) (i : ℤ) where
       by-cases (sure r i t)
       (λ e. rw e (sym (ltZ-in (pos 0) (pos 1 +ℤ sumOf (sureOne r i) ts) (omega (z, +z (pos 1) (sumOf (sureOne r i) ts))))))
       (λ e.
-        let n : pos 0 +ℤ sumOf (sureOne r i) ts ≡ sumOf (sureOne r i) ts = omega (z, +z (pos 0) (sumOf (sureOne r i) ts)) in
-        rw (e, n) (counts-is ts))
+      let n : pos 0 +ℤ sumOf (sureOne r i) ts ≡ sumOf (sureOne r i) ts = omega (z, +z (pos 0) (sumOf (sureOne r i) ts)) in
+      rw (e, n) (counts-is ts))

@@ -1,19 +1,17 @@
 -- What a resource's tasks have in common covers each of them, and their events fall on its days; a sure task's days are among the events' days.
-use mathlib.Core.Path.{_≡_, refl, sym, _∙_, subst}
-use mathlib.Core.Bool.{Bool, true, false}
-use mathlib.Core.List.{List, [], _∷_, _++_}
+use mathlib.Core.Path.{_≡_}
+use mathlib.Core.Bool.{true}
+use mathlib.Core.List.{List, [], _∷_}
 use Prim.Native.Nat.{ℕ}
-use lib.IntN.{ℤ, pos, negsuc, negℤ, _-ℤ_}
-use lib.Signed.{_≤ℤ_, _<ℤ_, leZ, ltZ}
-use Rattle.integers.specs.Whole.{larger, smaller}
-use Rattle.integers.specs.Tests.{if}
+use lib.IntN.{ℤ, pos, negsuc, negℤ}
+use lib.Signed.{_≤ℤ_}
 use Rattle.integers.proofs.Z.{z, maxz, minz}
-use Rattle.integers.proofs.Tests.{clash, by-cases}
+use Rattle.integers.proofs.Tests.{by-cases}
 use Rattle.plan.specs.declared.Task.{Task}
 use Rattle.plan.specs.Days.{dayLow, dayHigh}
-use Rattle.plan.specs.Sets.{has, only}
+use Rattle.plan.specs.Sets.{has}
 use Rattle.profile.specs.declared.Common.{Common}
-use Rattle.profile.specs.Keys.{dayOf, keyOf}
+use Rattle.profile.specs.Keys.{dayOf}
 use Rattle.profile.specs.Events.{ChangeFits, change, changeKeys, hopeful, surely, fixed, hopeOver, sureOver, taskKeys, eventsOf, keysOf, barOf, liftOf, withTask, joined, common}
 use Rattle.profile.proofs.Keys.{key-day}
 use Rattle.profile.proofs.Fit.{Fit}
@@ -145,30 +143,30 @@ module _ (Q : ℤ → Type 0) where
     task-each x y =
         by-cases (hopeful t)
         (λ p.
-          let o = x p in
-          by-cases (surely r t)
-          (λ q.
-            by-cases (fixed t)
-            (λ w. rw (p, q, w) (hope-each (pos 1) (omega z) (omega z) (o .0) (o .1)))
-            (λ w.
-              rw (p, q, w)
-              (each-append (λ k. Q (dayOf k)) (hopeOver t (pos 0)) (sureOver t (pos 0)) (hope-each (pos 0) (omega z) (omega z) (o .0) (o .1)) (sure-each (pos 0) (omega z) (omega z) (y q .0) (y q .1)))))
-          (λ q. rw (p, q) (hope-each (pos 0) (omega z) (omega z) (o .0) (o .1))))
+        let o = x p in
+        by-cases (surely r t)
+        (λ q.
+        by-cases (fixed t)
+        (λ w. rw (p, q, w) (hope-each (pos 1) (omega z) (omega z) (o .0) (o .1)))
+        (λ w.
+        rw (p, q, w)
+        (each-append (λ k. Q (dayOf k)) (hopeOver t (pos 0)) (sureOver t (pos 0)) (hope-each (pos 0) (omega z) (omega z) (o .0) (o .1)) (sure-each (pos 0) (omega z) (omega z) (y q .0) (y q .1)))))
+        (λ q. rw (p, q) (hope-each (pos 0) (omega z) (omega z) (o .0) (o .1))))
         (λ p.
-          by-cases (surely r t)
-          (λ q. let h = f .height in rw (p, q) (sure-each (t .height .high .0) (omega z) (omega z) (y q .0) (y q .1)))
-          (λ q. rw (p, q) tt))
+        by-cases (surely r t)
+        (λ q. let h = f .height in rw (p, q) (sure-each (t .height .high .0) (omega z) (omega z) (y q .0) (y q .1)))
+        (λ q. rw (p, q) tt))
 
     each-task : has (t .set) r ≡ true → surely r t ≡ true → Each (λ k. Q (dayOf k)) (taskKeys r t) → Q (t .origin .high .0) × Q (t .end .low .0)
     unfolding taskKeys
     each-task g q e =
         by-cases (hopeful t)
         (λ p.
-          by-cases (fixed t)
-          (λ w.
-            let s = each-change (t .origin .low .0) (t .end .high .0) (t .height .high .0) (pos 1) (hope-fits t f (pos 1) (omega z) (omega z)) (rw (p, q, w) at e) in
-            (rw (fixed-low r (pos 0) t f g w) at (s .0), rw (fixed-high r (pos 0) t f g w) at (s .1)))
-          (λ w. each-sure (pos 0) (omega z) (omega z) (each-last (λ k. Q (dayOf k)) (hopeOver t (pos 0)) (sureOver t (pos 0)) (rw (p, q, w) at e))))
+        by-cases (fixed t)
+        (λ w.
+        let s = each-change (t .origin .low .0) (t .end .high .0) (t .height .high .0) (pos 1) (hope-fits t f (pos 1) (omega z) (omega z)) (rw (p, q, w) at e) in
+        (rw (fixed-low r (pos 0) t f g w) at (s .0), rw (fixed-high r (pos 0) t f g w) at (s .1)))
+        (λ w. each-sure (pos 0) (omega z) (omega z) (each-last (λ k. Q (dayOf k)) (hopeOver t (pos 0)) (sureOver t (pos 0)) (rw (p, q, w) at e))))
         (λ p. let h = f .height in each-sure (t .height .high .0) (omega z) (omega z) (rw (p, q) at e))
 
   module _ (r : ℕ) where

@@ -1,9 +1,12 @@
 -- What holds of each element of a list: joined, by place, by membership, and from a test that every element passes.
-use mathlib.Core.Path.{_≡_, refl}
+use mathlib.Core.Path.{_≡_, refl, sym, _∙_}
+use mathlib.Core.Bool.{Bool, true, false}
 use mathlib.Core.List.{List, [], _∷_, _++_}
 use Prim.Native.Nat.{ℕ, zero, suc, _<_, suc-le-suc, zero-le}
 use native.Mathlib.Nat.{not-suc-le-zero, le-of-suc-le-suc}
 use lib.ListN.{length, getD}
+use Rattle.integers.specs.Tests.{any}
+use Rattle.integers.proofs.Tests.{clash, by-cases, or-left}
 use Rattle.plan.specs.declared.Task.{Task}
 use Rattle.rules.proofs.Days.{In}
 use Rattle.rules.proofs.Days.In.{head, tail}
@@ -60,3 +63,11 @@ pub in-at : (d : Task) (ts : List Task) (k : ℕ) → k < length ts → In (getD
 in-at d [] k h = absurd (not-suc-le-zero h)
 in-at d (t ∷ ts) zero h = head
 in-at d (t ∷ ts) (suc k) h = tail (in-at d ts k (le-of-suc-le-suc h))
+
+-- an element that passes a test, and its place
+pub any-at : {A : Type 0} (p : A → Bool) (d : A) (xs : List A) → any p xs ≡ true → (q : ℕ) × (q < length xs) × (p (getD xs q d) ≡ true)
+unfolding any
+any-at p d [] e = clash false e refl
+any-at p d (y ∷ ys) e =
+    by-cases (p y) (λ g. (0, suc-le-suc zero-le, g))
+    (λ g. let w = any-at p d ys (sym (or-left (p y) (any p ys) g) ∙ e) in (suc (w .0), suc-le-suc (w .1), w .2))

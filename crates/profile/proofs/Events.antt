@@ -1,17 +1,11 @@
 -- Laws of a task's events: they fit into keys, and on each day they add up to its hope and to whether it is sure.
-use mathlib.Core.Path.{_≡_, refl, sym, ap, _∙_}
-use mathlib.Core.Bool.{Bool, true, false}
-use mathlib.Core.List.{List, [], _∷_, _++_}
-use Prim.Native.Nat.{ℕ, _+_, _≤_, _<_}
-use native.Mathlib.Omega.{arith}
-use lib.IntN.{ℤ, pos, negsuc, negℤ, _+ℤ_, _-ℤ_}
-use lib.Signed.{_≤ℤ_, _<ℤ_, leZ, ltZ}
-use Rattle.integers.proofs.Z.{z, +z, -z, ~z}
+use lib.IntN.{ℤ, pos}
+use lib.Signed.{_≤ℤ_}
+use Rattle.integers.proofs.Z.{z, ~z}
 use Rattle.plan.specs.declared.Task.{Task}
 use Rattle.plan.specs.Powers.{powerLow, powerHigh}
-use Rattle.rules.specs.Calls.{rangesFit}
 use Rattle.profile.specs.Events.{ChangeFits, change}
-use Rattle.profile.proofs.Fit.{Fit, fit-is}
+use Rattle.profile.proofs.Fit.{Fit}
 
 -- ---- both fit
 module _ (t : Task) (f : Fit t) where

@@ -1,14 +1,12 @@
 -- A task whose ranges lie within their ends, said of each end.
 use mathlib.Core.Path.{_≡_}
 use mathlib.Core.Bool.{true}
-use lib.IntN.{ℤ, pos, negsuc}
+use lib.IntN.{ℤ}
 use lib.Signed.{_≤ℤ_, leZ}
 use Rattle.integers.specs.Tests.{and}
 use Rattle.integers.proofs.Z.{z}
 use Rattle.integers.proofs.Tests.{and-first, and-second}
 use Rattle.plan.specs.declared.Task.{Task}
-use Rattle.plan.specs.declared.Span.{Span}
-use Rattle.plan.specs.declared.PowerSpan.{PowerSpan}
 use Rattle.plan.specs.Days.{dayLow, dayHigh, durationLow, durationHigh, spanFits}
 use Rattle.plan.specs.Powers.{powerLow, powerHigh, powersFit}
 use Rattle.rules.specs.Calls.{rangesFit}

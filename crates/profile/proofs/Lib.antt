@@ -6,6 +6,7 @@ pub mod Events
 pub mod Loops
 pub mod Each
 pub mod Adds
+pub mod OnDay
 pub mod Spread
 pub mod Covers
 pub mod Promise

@@ -1,17 +1,15 @@
 -- What one turn of each loop keeps: what has been written, joined to what the rest will write, is the answer.
-use mathlib.Core.Path.{_≡_, refl, sym, ap, _∙_}
-use mathlib.Core.Bool.{Bool, true, false}
-use mathlib.Core.List.{List, [], _∷_, _++_, append-nil}
-use Prim.Native.Nat.{ℕ, suc, _+_, _*_, _≤_, _<_}
+use mathlib.Core.Path.{_≡_, _∙_}
+use mathlib.Core.List.{List, [], _∷_, _++_}
+use Prim.Native.Nat.{ℕ, _+_, _*_, _≤_, _<_}
 use native.Mathlib.Numerals.{add-one}
 use native.Mathlib.Omega.{arith}
 use lib.IntN.{ℤ, pos, _+ℤ_}
-use lib.ListN.{length, take, drop, getD, length-append, drop-of-length-le}
-use lib.Seq.{drop-cons, length-take-le}
+use lib.ListN.{length, take, drop, getD, drop-of-length-le}
+use lib.Seq.{drop-cons}
 use lib.Signed.{_≤ℤ_}
 use mir.Syntax.{w64}
 use mir.Val.{SFits}
-use Rattle.integers.specs.Tests.{if}
 use Rattle.integers.proofs.Z.{z, +z}
 use Rattle.integers.proofs.Tests.{if-case}
 use Rattle.integers.proofs.Sums.{Near}
@@ -26,7 +24,7 @@ use Rattle.profile.specs.Laid.{Laid}
 use Rattle.profile.specs.Events.{changeKeys, hopeful, surely, fixed, taskKeys, eventsOf, joined, keysOf, common}
 use Rattle.profile.specs.Sweep.{changed, stretchIn, worth, worthy, swept}
 use Rattle.profile.proofs.Keys.{power-near, sure-near}
-use Rattle.profile.proofs.Laid.{laid-all, laid-more}
+use Rattle.profile.proofs.Laid.{laid-more}
 
 -- ---- events
 abbrev few : List ℕ → Type 0
@@ -37,9 +35,9 @@ unfolding eventsOf taskKeys changeKeys
 events-few r t =
     if-case few (has (t .set) r) _ _
     (λ _.
-      if-case few (hopeful t) _ _
-      (λ _. if-case few (surely r t) _ _ (λ _. if-case few (fixed t) _ _ (λ _. omega arith) (λ _. omega arith)) (λ _. omega arith))
-      (λ _. if-case few (surely r t) _ _ (λ _. omega arith) (λ _. omega arith)))
+    if-case few (hopeful t) _ _
+    (λ _. if-case few (surely r t) _ _ (λ _. if-case few (fixed t) _ _ (λ _. omega arith) (λ _. omega arith)) (λ _. omega arith))
+    (λ _. if-case few (surely r t) _ _ (λ _. omega arith) (λ _. omega arith)))
     (λ _. omega arith)
 
 module _ (r : ℕ) (d : Task) (ts : List Task) (i : ℕ) (h : i < length ts) where

@@ -1,8 +1,8 @@
 -- The promise: the stretches swept from a resource's sorted events tell each of its tasks what the page says of its days.
-use mathlib.Core.Path.{_≡_, refl, sym, ap, _∙_, subst}
+use mathlib.Core.Path.{_≡_, sym, _∙_}
 use mathlib.Core.Bool.{Bool, true, false, not}
-use mathlib.Core.List.{List, [], _∷_, _++_}
-use Prim.Native.Nat.{ℕ, zero, suc, _+_, _*_, _≤_, _<_, suc-le-suc, zero-le}
+use mathlib.Core.List.{List}
+use Prim.Native.Nat.{ℕ, _≤_, _<_}
 use native.Mathlib.Omega.{arith}
 use lib.Dec.{ltb}
 use lib.IntN.{ℤ, pos, negsuc, negℤ, _+ℤ_, _-ℤ_}
@@ -10,25 +10,22 @@ use lib.ListN.{length, take, getD}
 use lib.Seq.{length-take-le, getD-take}
 use lib.Signed.{_≤ℤ_, _<ℤ_, leZ, ltZ}
 use borrow.Author.Tests.{ltb-true, ltb-false}
-use Rattle.integers.specs.Whole.{larger}
-use Rattle.integers.specs.Tests.{if, and, or, all, any}
+use Rattle.integers.specs.Tests.{or, any}
 use Rattle.integers.specs.Sums.{sumOf}
-use Rattle.integers.proofs.Z.{z, +z, -z, ~z, maxz, leZ-in, leZ-out, ltZ-in, ltZ-out, up, dn}
-use Rattle.integers.proofs.Tests.{clash, by-cases, false-in, same-test, and-first, and-second, and-in, or-first, or-second, or-left, not-out, any-out, not-any}
-use Rattle.integers.proofs.Sums.{Near}
+use Rattle.integers.proofs.Z.{z, +z, -z, ~z, maxz, leZ-in, leZ-out, ltZ-in, ltZ-out}
+use Rattle.integers.proofs.Tests.{clash, by-cases, false-in, and-first, and-second, and-in, or-left, not-out, any-out, not-any}
 use Rattle.plan.specs.declared.Task.{Task}
 use Rattle.plan.specs.Powers.{powerLow, powerHigh}
 use Rattle.plan.specs.Sets.{has, only}
 use Rattle.plan.proofs.Sets.{only-is, has-alone}
 use Rattle.rules.specs.Step.{possible, running, sure, hope, total, others, counts, shortfall, needed, barred, listedDays}
 use Rattle.rules.proofs.Days.{In, listed}
-use Rattle.rules.proofs.Days.In.{head, tail}
 use Rattle.rows.specs.View.{noTask}
 use Rattle.sorting.specs.Order.{Sorted}
 use Rattle.sorting.proofs.Every.{every}
 use Rattle.stretches.specs.declared.Stretch.{Stretch}
 use Rattle.stretches.specs.View.{noStretch, onDay}
-use Rattle.stretches.specs.Tells.{big, slackOn, tightOn, Quiet, Exact, Uncut, Ordered, Tells}
+use Rattle.stretches.specs.Tells.{big, slackOn, tightOn, Quiet, Exact, Uncut, Tells}
 use Rattle.profile.specs.declared.Common.{Common}
 use Rattle.profile.specs.declared.Level.{Level}
 use Rattle.profile.specs.Keys.{dayOf, powerOf, sureOf}
@@ -36,93 +33,11 @@ use Rattle.profile.specs.Events.{hopeful, surely, keysOf, barOf, liftOf,
 use Rattle.profile.specs.Sweep.{level, tightIn, swept, Sweeps}
 use Rattle.profile.specs.Promise.{Fitting, Bounded, FirstShort, Profile}
 use Rattle.profile.proofs.Fit.{Fit, fit-is}
-use Rattle.profile.proofs.Each.{Each, each-at, each-by, each-in, each-map, each-two, in-at}
+use Rattle.profile.proofs.Each.{Each, each-at, each-by, each-in, each-map, each-two, in-at, any-at}
 use Rattle.profile.proofs.Adds.{upTo, sureOne, keys-power, keys-sure, counts-is}
-use Rattle.profile.proofs.Spread.{levelOn, Told, Calm, Spread, on-first, on-last, on-in, chain-ordered, chain-rises, swept-spread}
-use Rattle.profile.proofs.Covers.{Covers, Over, common-over, common-covers, Dated, common-dated, keys-each, each-keys}
-
--- ---- a task on a day
-module _ (r : ℕ) (i : ℤ) (t : Task) where
-  possible-has : possible r i t ≡ true → has (t .set) r ≡ true
-  unfolding possible
-  possible-has e = and-first (has (t .set) r) (and (leZ (t .origin .low .0) i) (ltZ i (t .end .high .0))) e
-
-  possible-first : possible r i t ≡ true → t .origin .low .0 ≤ℤ i
-  unfolding possible
-  possible-first e =
-      let w = and-second (has (t .set) r) (and (leZ (t .origin .low .0) i) (ltZ i (t .end .high .0))) e in
-      let a = and-first (leZ (t .origin .low .0) i) (ltZ i (t .end .high .0)) w in
-      omega z
-
-  possible-last : possible r i t ≡ true → i <ℤ t .end .high .0
-  unfolding possible
-  possible-last e =
-      let w = and-second (has (t .set) r) (and (leZ (t .origin .low .0) i) (ltZ i (t .end .high .0))) e in
-      let a = and-second (leZ (t .origin .low .0) i) (ltZ i (t .end .high .0)) w in
-      omega z
-
-  -- a sure day is a possible one
-  sure-possible : Fit t → sure r i t ≡ true → possible r i t ≡ true
-  unfolding possible sure running
-  sure-possible f e =
-      let o = only-is (t .set) r (and-first (only (t .set) r) (running r i t) e) in
-      let w = and-second (only (t .set) r) (running r i t) e in
-      let a = and-first (leZ (t .origin .high .0) i) (ltZ i (t .end .low .0)) w in
-      let b = and-second (leZ (t .origin .high .0) i) (ltZ i (t .end .low .0)) w in
-      let x = f .origin in
-      let y = f .end in
-      and-in (has (t .set) r) (and (leZ (t .origin .low .0) i) (ltZ i (t .end .high .0))) (rw o (has-alone r))
-      (and-in (leZ (t .origin .low .0) i) (ltZ i (t .end .high .0)) (leZ-in (t .origin .low .0) i (omega z)) (ltZ-in i (t .end .high .0) (omega z)))
-
-  -- the hope: all of a positive height on a possible day, all of any other on a sure day
-  hope-positive : ltZ (pos 0) (t .height .high .0) ≡ true → possible r i t ≡ true → hope r i t ≡ t .height .high .0
-  unfolding hope
-  hope-positive e p = rw (e, p)
-
-  hope-sure : Fit t → sure r i t ≡ true → hope r i t ≡ t .height .high .0
-  unfolding hope
-  hope-sure f s = by-cases (ltZ (pos 0) (t .height .high .0)) (λ e. rw (e, sure-possible f s)) (λ e. rw (e, s))
-
-  hope-none : ltZ (pos 0) (t .height .high .0) ≡ false → sure r i t ≡ false → hope r i t ≡ pos 0
-  unfolding hope
-  hope-none e s = rw (e, s)
-
-  hope-near : Fit t → Near 1000000 (hope r i t)
-  unfolding hope
-  hope-near f =
-      let h = f .height in
-      by-cases (ltZ (pos 0) (t .height .high .0))
-      (λ e. by-cases (possible r i t) (λ p. rw (e, p) (record { over = omega z; under = omega z })) (λ p. rw (e, p) (record { over = omega z; under = omega z })))
-      (λ e. by-cases (sure r i t) (λ p. rw (e, p) (record { over = omega z; under = omega z })) (λ p. rw (e, p) (record { over = omega z; under = omega z })))
-
--- ---- all tasks on a day
-module _ (r : ℕ) (i : ℤ) where
-  counts-in : {t : Task} {ts : List Task} → In t ts → sure r i t ≡ true → counts r ts i ≡ true
-  unfolding counts any
-  counts-in {t} (head {ts}) s = or-first (sure r i t) (any (sure r i) ts) s
-  counts-in (tail {u} {ts} k) s = or-second (sure r i u) (any (sure r i) ts) (counts-in k s)
-
-  counts-out : (ts : List Task) → counts r ts i ≡ true → (t : Task) × In t ts × (sure r i t ≡ true)
-  unfolding counts any
-  counts-out [] h = clash false h refl
-  counts-out (t ∷ ts) h =
-      by-cases (sure r i t) (λ e. (t, head, e))
-      (λ e. let q = counts-out ts (sym (or-left (sure r i t) (any (sure r i) ts) e) ∙ h) in (q .0, tail (q .1), q .2))
-
-  total-near : (ts : List Task) → Each Fit ts → Near (length ts * 1000000) (total r ts i)
-  unfolding total sumOf Each
-  total-near [] f = record { over = omega arith; under = omega arith }
-  total-near (t ∷ ts) f =
-      let a = hope-near r i t (f .0) in
-      let b = total-near ts (f .1) in
-      record { over = omega (z, +z (hope r i t) (sumOf (hope r i) ts)); under = omega (z, +z (hope r i t) (sumOf (hope r i) ts)) }
-
-any-at : {A : Type 0} (p : A → Bool) (d : A) (xs : List A) → any p xs ≡ true → (q : ℕ) × (q < length xs) × (p (getD xs q d) ≡ true)
-unfolding any
-any-at p d [] e = clash false e refl
-any-at p d (y ∷ ys) e =
-    by-cases (p y) (λ g. (0, suc-le-suc zero-le, g))
-    (λ g. let w = any-at p d ys (sym (or-left (p y) (any p ys) g) ∙ e) in (suc (w .0), suc-le-suc (w .1), w .2))
+use Rattle.profile.proofs.OnDay.{possible-has, possible-first, possible-last, sure-possible, hope-positive, hope-sure, hope-none, counts-in, counts-out, total-near}
+use Rattle.profile.proofs.Spread.{levelOn, Told, Spread, on-first, on-last, on-in, chain-ordered, chain-rises, swept-spread}
+use Rattle.profile.proofs.Covers.{Covers, common-over, common-covers, common-dated, keys-each, each-keys}
 
 -- ---- keys in another order
 each-sorted : (p : ℕ → Bool) (xs ys : List ℕ) → ((g : ℕ → ℤ) → sumOf g ys ≡ sumOf g xs) → Each (λ k. p k ≡ true) xs → Each (λ k. p k ≡ true) ys
@@ -154,9 +69,9 @@ unfolding surely running
 running-never r i t o e =
     false-in (running r i t)
     (λ w.
-      let a = and-first (leZ (t .origin .high .0) i) (ltZ i (t .end .low .0)) w in
-      let b = and-second (leZ (t .origin .high .0) i) (ltZ i (t .end .low .0)) w in
-      clash (surely r t) (and-in (only (t .set) r) (ltZ (t .origin .high .0) (t .end .low .0)) o (ltZ-in (t .origin .high .0) (t .end .low .0) (omega z))) e)
+    let a = and-first (leZ (t .origin .high .0) i) (ltZ i (t .end .low .0)) w in
+    let b = and-second (leZ (t .origin .high .0) i) (ltZ i (t .end .low .0)) w in
+    clash (surely r t) (and-in (only (t .set) r) (ltZ (t .origin .high .0) (t .end .low .0)) o (ltZ-in (t .origin .high .0) (t .end .low .0) (omega z))) e)
 
 same-run : (r : ℕ) (t : Task) (u : Stretch) → u .from .0 <ℤ u .to .0 → only (t .set) r ≡ true →
     (surely r t ≡ true → (or (leZ (t .origin .high .0) (u .from .0)) (leZ (u .to .0) (t .origin .high .0)) ≡ true) × (or (leZ (t .end .low .0) (u .from .0)) (leZ (u .to .0) (t .end .low .0)) ≡ true)) →
@@ -194,14 +109,13 @@ module _ (r : ℕ) (x : ℤ) (ts : List Task) (f : Each Fit ts) (ls : List ℕ) 
       keys-each (λ d. leZ (here .low .0) d ≡ true) r ts f
       (each-two Fit _ _
       (λ t a b g.
-        let c = b g in
-        let l = c .low in
-        let o = a .origin in
-        let e = a .end in
-        (
-          (λ p. (leZ-in (here .low .0) (t .origin .low .0) l, leZ-in (here .low .0) (t .end .high .0) (let w = and-second (ltZ (pos 0) (t .height .high .0)) (ltZ (t .origin .low .0) (t .end .high .0)) p in omega z))),
-          (λ q. (leZ-in (here .low .0) (t .origin .high .0) (omega z), leZ-in (here .low .0) (t .end .low .0) (let w = and-second (only (t .set) r) (ltZ (t .origin .high .0) (t .end .low .0)) q in omega z)))
-        ))
+      let c = b g in
+      let l = c .low in
+      let o = a .origin in
+      let e = a .end in (
+        (λ p. (leZ-in (here .low .0) (t .origin .low .0) l, leZ-in (here .low .0) (t .end .high .0) (let w = and-second (ltZ (pos 0) (t .height .high .0)) (ltZ (t .origin .low .0) (t .end .high .0)) p in omega z))),
+        (λ q. (leZ-in (here .low .0) (t .origin .high .0) (omega z), leZ-in (here .low .0) (t .end .low .0) (let w = and-second (only (t .set) r) (ltZ (t .origin .high .0) (t .end .low .0)) q in omega z))),
+      ))
       ts f (common-covers r nobody ts))
 
   keys-last : Each (λ k. leZ (dayOf k) (here .high .0) ≡ true) (keysOf r ts)
@@ -210,14 +124,13 @@ module _ (r : ℕ) (x : ℤ) (ts : List Task) (f : Each Fit ts) (ls : List ℕ) 
       keys-each (λ d. leZ d (here .high .0) ≡ true) r ts f
       (each-two Fit _ _
       (λ t a b g.
-        let c = b g in
-        let l = c .high in
-        let o = a .origin in
-        let e = a .end in
-        (
-          (λ p. (leZ-in (t .origin .low .0) (here .high .0) (let w = and-second (ltZ (pos 0) (t .height .high .0)) (ltZ (t .origin .low .0) (t .end .high .0)) p in omega z), leZ-in (t .end .high .0) (here .high .0) l)),
-          (λ q. (leZ-in (t .origin .high .0) (here .high .0) (let w = and-second (only (t .set) r) (ltZ (t .origin .high .0) (t .end .low .0)) q in omega z), leZ-in (t .end .low .0) (here .high .0) (omega z)))
-        ))
+      let c = b g in
+      let l = c .high in
+      let o = a .origin in
+      let e = a .end in (
+        (λ p. (leZ-in (t .origin .low .0) (here .high .0) (let w = and-second (ltZ (pos 0) (t .height .high .0)) (ltZ (t .origin .low .0) (t .end .high .0)) p in omega z), leZ-in (t .end .high .0) (here .high .0) l)),
+        (λ q. (leZ-in (t .origin .high .0) (here .high .0) (let w = and-second (only (t .set) r) (ltZ (t .origin .high .0) (t .end .low .0)) q in omega z), leZ-in (t .end .low .0) (here .high .0) (omega z))),
+      ))
       ts f (common-covers r nobody ts))
 
   spread : Spread here (here .low .0) (levelOn start ls) ls told
@@ -225,6 +138,9 @@ module _ (r : ℕ) (x : ℤ) (ts : List Task) (f : Each Fit ts) (ls : List ℕ) 
       swept-spread here (here .low .0) start 0 ls (s .rises)
       (each-map _ (λ k. here .low .0 ≤ℤ dayOf k) (λ k e. omega z) ls (each-sorted (λ k. leZ (here .low .0) (dayOf k)) (keysOf r ts) ls (s .sums) keys-first))
       (each-map _ (λ k. dayOf k ≤ℤ here .high .0) (λ k e. omega z) ls (each-sorted (λ k. leZ (dayOf k) (here .high .0)) (keysOf r ts) ls (s .sums) keys-last))
+
+  told-at : (q : ℕ) → q < length told → Told (levelOn start ls) ls (here .low .0) (here .high .0) (getD told q noStretch)
+  told-at q h = each-at (Told (levelOn start ls) ls (here .low .0) (here .high .0)) noStretch told (spread .told) q h
 
   -- the levels are the page's slack, and its slack where a day counts
   slack-is : (i : ℤ) → levelOn start ls i .slack .0 ≡ slackOn r limit ts i
@@ -275,17 +191,19 @@ module _ (r : ℕ) (x : ℤ) (ts : List Task) (f : Each Fit ts) (ls : List ℕ) 
     unbarred =
         by-cases (possible r i t)
         (λ p.
-          let h = t .height .high .0 in
-          let c = covered k (possible-has r i t p) .bar in
-          let l = calm p .0 in
-          rw (p,
-            ltZ-out ((total r ts i -ℤ hope r i t) +ℤ h) x
-            (by-cases (sure r i t)
-            (λ e. let g = hope-sure r i t (fit k) e in omega (z, maxz (pos 0) (negℤ h), ~z h, -z (total r ts i) (hope r i t), +z (total r ts i -ℤ hope r i t) h, -z (total r ts i) x))
-            (λ e.
+        let h = t .height .high .0 in
+        let c = covered k (possible-has r i t p) .bar in
+        let l = calm p .0 in
+        rw (
+          p,
+          ltZ-out ((total r ts i -ℤ hope r i t) +ℤ h) x
+              (by-cases (sure r i t)
+              (λ e. let g = hope-sure r i t (fit k) e in omega (z, maxz (pos 0) (negℤ h), ~z h, -z (total r ts i) (hope r i t), +z (total r ts i -ℤ hope r i t) h, -z (total r ts i) x))
+              (λ e.
               by-cases (ltZ (pos 0) h)
               (λ q. let g = hope-positive r i t q p in omega (z, maxz (pos 0) (negℤ h), ~z h, -z (total r ts i) (hope r i t), +z (total r ts i -ℤ hope r i t) h, -z (total r ts i) x))
-              (λ q. let g = hope-none r i t q e in omega (z, maxz (pos 0) (negℤ h), ~z h, -z (total r ts i) (hope r i t), +z (total r ts i -ℤ hope r i t) h, -z (total r ts i) x))))))
+              (λ q. let g = hope-none r i t q e in omega (z, maxz (pos 0) (negℤ h), ~z h, -z (total r ts i) (hope r i t), +z (total r ts i -ℤ hope r i t) h, -z (total r ts i) x)))),
+        ))
         (λ p. rw p)
 
     unneeded : needed r limit ts t i ≡ false
@@ -293,18 +211,18 @@ module _ (r : ℕ) (x : ℤ) (ts : List Task) (f : Each Fit ts) (ls : List ℕ) 
     unneeded =
         by-cases (counts r ts i)
         (λ c.
-          by-cases (possible r i t)
-          (λ p.
-            by-cases (ltZ (pos 0) (t .height .high .0))
-            (λ q.
-              let h = t .height .high .0 in
-              let m = t .height .low .0 in
-              let l = covered k (possible-has r i t p) .lift in
-              let n = calm-tight p c in
-              let g = hope-positive r i t q p in
-              rw (c, p, q, ltZ-out (total r ts i -ℤ hope r i t) x (omega (z, maxz h (h -ℤ m), -z h m, -z (total r ts i) (hope r i t), -z (total r ts i) x))))
-            (λ q. rw (c, p, q)))
-          (λ p. rw (c, p)))
+        by-cases (possible r i t)
+        (λ p.
+        by-cases (ltZ (pos 0) (t .height .high .0))
+        (λ q.
+        let h = t .height .high .0 in
+        let m = t .height .low .0 in
+        let l = covered k (possible-has r i t p) .lift in
+        let n = calm-tight p c in
+        let g = hope-positive r i t q p in
+        rw (c, p, q, ltZ-out (total r ts i -ℤ hope r i t) x (omega (z, maxz h (h -ℤ m), -z h m, -z (total r ts i) (hope r i t), -z (total r ts i) x))))
+        (λ q. rw (c, p, q)))
+        (λ p. rw (c, p)))
         (λ c. rw c)
 
     unlifted : sure r i t ≡ true → (x -ℤ others r ts t i) ≤ℤ t .height .low .0
@@ -325,8 +243,8 @@ module _ (r : ℕ) (x : ℤ) (ts : List Task) (f : Each Fit ts) (ls : List ℕ) 
   tells {t} k =
       record {
         ordered = chain-ordered (here .low .0) told (spread .chain);
-        exact = λ q h. exact (getD told q noStretch) (each-at (Told (levelOn start ls) ls (here .low .0) (here .high .0)) noStretch told (spread .told) q h);
-        uncut = λ q h. uncut k (getD told q noStretch) (each-at (Told (levelOn start ls) ls (here .low .0) (here .high .0)) noStretch told (spread .told) q h);
+        exact = λ q h. exact (getD told q noStretch) (told-at q h);
+        uncut = λ q h. uncut k (getD told q noStretch) (told-at q h);
         quiet = λ i off. quiet k i off;
       }
 
@@ -334,9 +252,6 @@ module _ (r : ℕ) (x : ℤ) (ts : List Task) (f : Each Fit ts) (ls : List ℕ) 
   -- a day in a stretch, and that stretch
   on-told : (i : ℤ) → any (onDay i) told ≡ true → (q : ℕ) × (q < length told) × (onDay i (getD told q noStretch) ≡ true)
   on-told i e = any-at (onDay i) noStretch told e
-
-  told-at : (q : ℕ) → q < length told → Told (levelOn start ls) ls (here .low .0) (here .high .0) (getD told q noStretch)
-  told-at q h = each-at (Told (levelOn start ls) ls (here .low .0) (here .high .0)) noStretch told (spread .told) q h
 
   tight-short : (i : ℤ) → tightOn r limit ts i <ℤ pos 0 → shortfall r limit ts i ≡ true
   unfolding tightOn slackOn shortfall
@@ -362,9 +277,9 @@ module _ (r : ℕ) (x : ℤ) (ts : List Task) (f : Each Fit ts) (ls : List ℕ) 
       let p = sure-possible r i (c .0) (fit (c .1)) (c .2) in
       by-cases (any (shortfall r limit ts) (listedDays ts)) (λ a. a)
       (λ a.
-        clash (shortfall r limit ts i) e
-        (not-out (shortfall r limit ts i)
-        (listed r (λ d. not (shortfall r limit ts d)) (c .0) ts (c .1) (not-any (shortfall r limit ts) (listedDays ts) a) i (possible-first r i (c .0) p) (possible-last r i (c .0) p))))
+      clash (shortfall r limit ts i) e
+      (not-out (shortfall r limit ts i)
+      (listed r (λ d. not (shortfall r limit ts d)) (c .0) ts (c .1) (not-any (shortfall r limit ts) (listedDays ts) a) i (possible-first r i (c .0) p) (possible-last r i (c .0) p))))
 
   -- and it lies in a stretch
   short-told : (i : ℤ) → shortfall r limit ts i ≡ true → any (onDay i) told ≡ true
@@ -406,13 +321,13 @@ module _ (r : ℕ) (x : ℤ) (ts : List Task) (f : Each Fit ts) (ls : List ℕ) 
   short-first k w h i l =
       false-in (shortfall r limit ts i)
       (λ e.
-        let o = on-told i (short-told i e) in
-        let t = told-at (o .0) (o .1) .tight i (o .2) ∙ tight-is i in
-        let m = short-tight i e in
-        let a = on-first i (getD told (o .0) noStretch) (o .2) in
-        by-cases (ltb (o .0) k)
-        (λ g. let b = w .before (o .0) (ltb-true (o .0) k g) in omega z)
-        (λ g. let b = chain-rises (here .low .0) told (spread .chain) k (o .0) (ltb-false (o .0) k g) (o .1) in omega z))
+      let o = on-told i (short-told i e) in
+      let t = told-at (o .0) (o .1) .tight i (o .2) ∙ tight-is i in
+      let m = short-tight i e in
+      let a = on-first i (getD told (o .0) noStretch) (o .2) in
+      by-cases (ltb (o .0) k)
+      (λ g. let b = w .before (o .0) (ltb-true (o .0) k g) in omega z)
+      (λ g. let b = chain-rises (here .low .0) told (spread .chain) k (o .0) (ltb-false (o .0) k g) (o .1) in omega z))
 
   -- ---- bounds
   tight-bounds : (i : ℤ) → slackOn r limit ts i ≤ℤ pos 300000000 → (slackOn r limit ts i ≤ℤ tightOn r limit ts i) × (tightOn r limit ts i ≤ℤ big)
@@ -447,7 +362,13 @@ module _ (r : ℕ) (x : ℤ) (ts : List Task) (f : Each Fit ts) (ls : List ℕ) 
       }
 
   profile-of : length ts ≤ 256 → powerLow ≤ℤ x → x ≤ℤ powerHigh → (k : ℕ) → FirstShort told k → Profile r limit ts told (ltb k (length told))
-  profile-of h a b k w = record { bounded = bounded h a b; shortfall = short-is k w; tells = λ q l. tells (in-at noTask ts q l) }
+  profile-of h a b k w =
+      record {
+        bounded = bounded h a b;
+        short-is = short-is k w;
+        day = λ q v l. record { holds = short-there q v l; first = short-first q v l };
+        tells = λ q l. tells (in-at noTask ts q l);
+      }
 
 -- ---- as the code has them: the events in the first keys, the stretches in the first rows
 pub profiled : (r : ℕ) (x : ℤ) (ts : List Task) (ks : List ℕ) (c : Common) (ss : List Stretch) (m k : ℕ) →

@@ -1,5 +1,5 @@
 -- What the sweep's stretches say: one after the other, each exact on its days and cut by no key, and no rule can touch a day between them.
-use mathlib.Core.Path.{_≡_, refl, sym, ap, _∙_, subst}
+use mathlib.Core.Path.{_≡_, refl}
 use mathlib.Core.Bool.{Bool, true, false}
 use mathlib.Core.List.{List, [], _∷_, _++_, append-nil}
 use Prim.Native.Nat.{ℕ, zero, suc, _≤_, _<_}
@@ -7,22 +7,20 @@ use native.Mathlib.Nat.{not-suc-le-zero, le-of-suc-le-suc}
 use lib.ListN.{length, getD}
 use lib.IntN.{ℤ, pos, _+ℤ_, +ℤ-assoc}
 use lib.Signed.{_≤ℤ_, _<ℤ_, leZ, ltZ}
-use Rattle.integers.specs.Tests.{if, and, or, any}
+use Rattle.integers.specs.Tests.{or, any}
 use Rattle.integers.specs.Sums.{sumOf}
 use Rattle.integers.proofs.Z.{z, +z, leZ-in, leZ-out, ltZ-in, ltZ-out}
-use Rattle.integers.proofs.Tests.{clash, by-cases, false-in, and-first, and-second, and-in, or-first, or-second, or-left}
+use Rattle.integers.proofs.Tests.{clash, by-cases, and-first, and-second, and-in, or-first, or-second}
 use Rattle.sorting.specs.Order.{RisesFrom}
-use Rattle.plan.specs.Powers.{power}
 use Rattle.stretches.specs.declared.Stretch.{Stretch}
 use Rattle.stretches.specs.View.{noStretch, onDay}
 use Rattle.stretches.specs.Tells.{Ordered}
 use Rattle.profile.specs.declared.Common.{Common}
 use Rattle.profile.specs.declared.Level.{Level}
-use Rattle.profile.specs.Events.{count}
 use Rattle.profile.specs.Keys.{dayOf, powerOf, sureOf}
 use Rattle.profile.specs.Sweep.{level, changed, tightIn, stretchIn, worth, worthy, swept}
 use Rattle.profile.proofs.Keys.{day-rises}
-use Rattle.profile.proofs.Each.{Each, each-append, each-map}
+use Rattle.profile.proofs.Each.{Each, each-map}
 use Rattle.profile.proofs.Adds.{upTo}
 
 -- what a level and the keys after it add up to on day i
@@ -127,7 +125,6 @@ module _ (c : Common) (a d : ℤ) (v : Level) (lv : ℤ → Level) (ks : List �
     (here : (i : ℤ) → a ≤ℤ i → i <ℤ d → lv i ≡ v)
     (later : Each (λ k. d ≤ℤ dayOf k) ks)
     (s : Spread c d lv ks us) where
-
   front-told : a <ℤ d → Told lv ks a (c .high .0) (stretchIn a d v)
   unfolding stretchIn
   front-told h =
@@ -151,28 +148,28 @@ module _ (c : Common) (a d : ℤ) (v : Level) (lv : ℤ → Level) (ks : List �
   front =
       by-cases (worth c (stretchIn a d v))
       (λ w.
-        let h = worth-days c (stretchIn a d v) w in
-        rw w
-        (record {
-          chain = (omega z, h, s .chain);
-          told = (front-told h, rest-told);
-          calm = λ i l m e.
+      let h = worth-days c (stretchIn a d v) w in
+      rw w
+      (record {
+        chain = (omega z, h, s .chain);
+        told = (front-told h, rest-told);
+        calm = λ i l m e.
             by-cases (ltZ i d)
             (λ b. clash (onDay i (stretchIn a d v)) (on-in i (stretchIn a d v) l (omega z)) (or-neither c (stretchIn a d v) (onDay i (stretchIn a d v)) (any (onDay i) us) e .0))
             (λ b. s .calm i (omega z) m (or-neither c (stretchIn a d v) (onDay i (stretchIn a d v)) (any (onDay i) us) e .1));
-        }))
+      }))
       (λ w.
-        rw w
-        (record {
-          chain = chain-down a d us low (s .chain);
-          told = rest-told;
-          calm = λ i l m e.
+      rw w
+      (record {
+        chain = chain-down a d us low (s .chain);
+        told = rest-told;
+        calm = λ i l m e.
             by-cases (ltZ i d)
             (λ b.
-              let g = worth-calm c (stretchIn a d v) w (omega z) in
-              rw (here i l (omega z)) (record { bar = g .0; lift = g .1 }))
+            let g = worth-calm c (stretchIn a d v) w (omega z) in
+            rw (here i l (omega z)) (record { bar = g .0; lift = g .1 }))
             (λ b. s .calm i (omega z) m e);
-        }))
+      }))
 
 -- ---- levels
 none-yet : (f : ℕ → ℤ) (i : ℤ) (ks : List ℕ) → Each (λ k. i <ℤ dayOf k) ks → sumOf (upTo f i) ks ≡ pos 0
@@ -210,15 +207,15 @@ behind c v k ks us s =
       told =
           each-map (Told (levelOn (changed v k) ks) ks (dayOf k) (c .high .0)) (Told (levelOn v (k ∷ ks)) (k ∷ ks) (dayOf k) (c .high .0))
           (λ u t.
-            let from = t .first in
-            record {
-              slack = λ i e. let l = on-first i u e in rw (level-after v i k ks (omega z)) (t .slack i e);
-              tight = λ i e. let l = on-first i u e in rw (level-after v i k ks (omega z)) (t .tight i e);
-              first = from;
-              filled = t .filled;
-              last = t .last;
-              whole = (or-first (leZ (dayOf k) (u .from .0)) (leZ (u .to .0) (dayOf k)) (leZ-in (dayOf k) (u .from .0) from), t .whole);
-            })
+          let from = t .first in
+          record {
+            slack = λ i e. let l = on-first i u e in rw (level-after v i k ks (omega z)) (t .slack i e);
+            tight = λ i e. let l = on-first i u e in rw (level-after v i k ks (omega z)) (t .tight i e);
+            first = from;
+            filled = t .filled;
+            last = t .last;
+            whole = (or-first (leZ (dayOf k) (u .from .0)) (leZ (u .to .0) (dayOf k)) (leZ-in (dayOf k) (u .from .0) from), t .whole);
+          })
           us (s .told);
       calm = λ i l m e. rw (level-after v i k ks l) (s .calm i l m e);
     }
@@ -239,11 +236,11 @@ unfolding swept RisesFrom Each Chain any
 swept-spread c a v b [] r l m =
     by-cases (leZ a (c .high .0))
     (λ e.
-      rw append-nil at
-      (front c a (c .high .0) v (levelOn v []) [] [] (omega z) (omega z) (λ i x y. level-before v i [] tt) tt
-      (record { chain = tt; told = tt; calm = λ i x y f. absurd (omega z) })))
+    rw append-nil at
+    (front c a (c .high .0) v (levelOn v []) [] [] (omega z) (omega z) (λ i x y. level-before v i [] tt) tt
+    (record { chain = tt; told = tt; calm = λ i x y f. absurd (omega z) })))
     (λ e.
-      rw (too-late c a (c .high .0) v (omega z)) (record { chain = tt; told = tt; calm = λ i x y f. absurd (omega z) }))
+    rw (too-late c a (c .high .0) v (omega z)) (record { chain = tt; told = tt; calm = λ i x y f. absurd (omega z) }))
 swept-spread c a v b (k ∷ ks) r l m =
     let later = rises-each k ks (r .1) in
     let first = l .0 in

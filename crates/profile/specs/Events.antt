@@ -2,13 +2,13 @@
 use mathlib.Core.Bool.{Bool}
 use mathlib.Core.List.{List, [], _∷_, _++_}
 use Prim.Native.Nat.{ℕ}
-use lib.IntN.{ℤ, pos, negsuc, negℤ, _-ℤ_}
+use lib.IntN.{ℤ, pos, negℤ, _-ℤ_}
 use lib.Signed.{ltZ, leZ}
-use Rattle.integers.specs.Whole.{larger, smaller, eqZ}
+use Rattle.integers.specs.Whole.{larger, smaller}
 use Rattle.integers.specs.Tests.{if, and}
 use Rattle.plan.specs.declared.Task.{Task}
 use Rattle.plan.specs.Days.{day, dayLow, dayHigh}
-use Rattle.plan.specs.Powers.{power, powerLow, powerHigh}
+use Rattle.plan.specs.Powers.{power}
 use Rattle.plan.specs.Sets.{has, only}
 use Rattle.profile.specs.declared.Change.{Change}
 use Rattle.profile.specs.declared.Count.{Count}

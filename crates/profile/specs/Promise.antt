@@ -1,6 +1,6 @@
 -- What the stretches of a resource promise to whoever narrows its tasks.
 use mathlib.Core.Path.{_≡_}
-use mathlib.Core.Bool.{Bool, true}
+use mathlib.Core.Bool.{Bool, true, false}
 use mathlib.Core.List.{List}
 use Prim.Native.Nat.{ℕ, _≤_, _<_}
 use lib.IntN.{ℤ, pos, negsuc}
@@ -46,8 +46,14 @@ pub record FirstShort (ss : List Stretch) (k : ℕ) : Type 0 where
   pub before : (q : ℕ) → q < k → pos 0 ≤ℤ getD ss q noStretch .tight .0
   pub there : k < length ss → getD ss k noStretch .tight .0 <ℤ pos 0
 
--- THE PROMISE, with the task at each place told what it needs, and a shortfall told as the page has it
+-- the first day of which a test holds
+pub record FirstDay (p : ℤ → Bool) (d : ℤ) : Type 0 where
+  pub holds : p d ≡ true
+  pub first : (i : ℤ) → i <ℤ d → p i ≡ false
+
+-- THE PROMISE, with the task at each place told what it needs, a shortfall told as the page has it, and its first day
 pub record Profile (r : ℕ) (limit : ℤ → ℤ) (ts : List Task) (ss : List Stretch) (short : Bool) : Type 0 where
   pub bounded : (k : ℕ) → k < length ss → Bounded (getD ss k noStretch)
-  pub shortfall : short ≡ any (shortfall r limit ts) (listedDays ts)
+  pub short-is : short ≡ any (shortfall r limit ts) (listedDays ts)
+  pub day : (k : ℕ) → FirstShort ss k → k < length ss → FirstDay (shortfall r limit ts) (getD ss k noStretch .from .0)
   pub tells : (k : ℕ) → k < length ts → Tells r limit ts (getD ts k noTask) ss

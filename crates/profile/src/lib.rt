@@ -2,15 +2,15 @@
 // over them writes a stretch up to each event's day with what has been added up by then. Only stretches that some rule could touch are kept.
 // Cost: n log n for n tasks; no day is visited, and no task for a stretch.
 ghost use mathlib.Core.Path.{_≡_};
-ghost use mathlib.Core.Bool.{Bool};
-ghost use Prim.Native.Nat.{ℕ, _+_, _*_, _≤_, _<_};
-ghost use lib.IntN.{ℤ, pos, negsuc, negℤ, _+ℤ_, natAbs};
+ghost use Prim.Native.Nat.{_+_, _*_, _≤_, _<_};
+ghost use lib.IntN.{pos, negℤ, _+ℤ_, natAbs};
 ghost use lib.ListN.{length, take, getD};
-ghost use lib.Signed.{_≤ℤ_, _<ℤ_, ltZ, leZ};
+ghost use lib.Signed.{_≤ℤ_, ltZ};
 ghost use mir.Syntax.{w64};
 ghost use mir.Val.{SFits};
 ghost use mathlib.Core.Bool.{true};
 ghost use Rattle.plan.specs.Powers.{power, powerLow, powerHigh};
+ghost use Rattle.plan.specs.Sets.{only};
 ghost use Rattle.rules.specs.Calls.{rangesFit};
 ghost use Rattle.rows.specs.View.{tasksOf, noTask};
 ghost use Rattle.stretches.specs.View.{stretchesOf};
@@ -136,7 +136,19 @@ fn is_hopeful(t: Task) -> bool
     ensures { λ r. ⌜ r ≡ hopeful t ⌝ }
 {
     let low = t.origin.low;
-    if Power(0).below(t.height.high) { low.before(t.end.high) } else { false }
+    if Power(0).below(t.height.high) {
+        low.before(t.end.high)
+    } else {
+        false
+    }
+}
+
+// whether the task can stand nowhere else
+fn is_only_on(t: Task, r: u64) -> bool
+    requires { ⌜ r < 64 ⌝ }
+    ensures { λ q. ⌜ q ≡ only (t .set) r ⌝ }
+{
+    plan::only_resource(t.set, r)
 }
 
 fn is_surely(t: Task, r: u64) -> bool
@@ -144,7 +156,11 @@ fn is_surely(t: Task, r: u64) -> bool
     ensures { λ q. ⌜ q ≡ surely r t ⌝ }
 {
     let high = t.origin.high;
-    if plan::only_resource(t.set, r) { high.before(t.end.low) } else { false }
+    if is_only_on(t, r) {
+        high.before(t.end.low)
+    } else {
+        false
+    }
 }
 
 fn is_fixed(t: Task) -> bool
@@ -152,7 +168,11 @@ fn is_fixed(t: Task) -> bool
 {
     let start = t.origin.high;
     let stop = t.end.high;
-    if start.until(t.origin.low) { stop.until(t.end.low) } else { false }
+    if start.until(t.origin.low) {
+        stop.until(t.end.low)
+    } else {
+        false
+    }
 }
 
 // the hope from origin low to end high, with u sure tasks
@@ -162,7 +182,12 @@ fn hope_over(t: Task, u: Count) -> Change
     let from = t.origin.low;
     let to = t.end.high;
     let power = t.height.high;
-    Change { from, to, power, sure: u }
+    Change {
+        from,
+        to,
+        power,
+        sure: u,
+    }
 }
 
 // one sure task from origin high to end low, with the power p there
@@ -171,7 +196,12 @@ fn sure_over(t: Task, p: Power) -> Change
 {
     let from = t.origin.high;
     let to = t.end.low;
-    Change { from, to, power: p, sure: Count(1) }
+    Change {
+        from,
+        to,
+        power: p,
+        sure: Count(1),
+    }
 }
 
 // the events of a task that has r in its set, behind the first n
@@ -231,7 +261,12 @@ fn with_task(c: Common, t: Task) -> Common
 fn no_one() -> Common
     ensures { λ r. ⌜ r ≡ nobody ⌝ }
 {
-    Common { low: Day::highest(), high: Day::lowest(), bar: Power(0), lift: Power(0) }
+    Common {
+        low: Day::highest(),
+        high: Day::lowest(),
+        bar: Power(0),
+        lift: Power(0),
+    }
 }
 
 // the events of task i, where it has r in its set, behind those of the tasks before it
@@ -244,7 +279,10 @@ fn collect_task(s: &[[i64; 9]], i: usize, r: u64, keys: &mut [u64], c: Collected
     let t = rows::task_at(s, i);
     if plan::has_resource(t.set, r) {
         let n = put_events(keys, c.events, t, r);
-        return Collected { events: n, common: with_task(c.common, t) };
+        return Collected {
+            events: n,
+            common: with_task(c.common, t),
+        };
     }
     c
 }
@@ -257,7 +295,10 @@ fn collect(s: &[[i64; 9]], r: u64, keys: &mut [u64]) -> Collected
     ensures { λ q. ⌜ q .common ≡ common r nobody (tasksOf (now (s .entry))) ⌝ }
     ensures { λ q. ⌜ q .events ≤ 1024 ⌝ }
 {
-    let mut c = Collected { events: 0, common: no_one() };
+    let mut c = Collected {
+        events: 0,
+        common: no_one(),
+    };
     let mut i: usize = 0;
     while i < s.len() {
         c = collect_task(s, i, r, keys, c);
@@ -274,30 +315,47 @@ fn changed(v: Level, k: u64) -> Level
 {
     let slack = v.slack;
     let sure = v.sure;
-    Level { slack: slack.plus(power_of(k)), sure: sure.plus(sure_of(k)) }
+    Level {
+        slack: slack.plus(power_of(k)),
+        sure: sure.plus(sure_of(k)),
+    }
 }
 
 fn tight_in(v: Level) -> Power
     ensures { λ r. ⌜ r ≡ power (tightIn v) ⌝ }
 {
     let sure = v.sure;
-    if sure.some() { v.slack } else { Power(1_000_000_000_000) }
+    if sure.some() {
+        v.slack
+    } else {
+        Power(1_000_000_000_000)
+    }
 }
 
 fn stretch_in(from: Day, to: Day, v: Level) -> Stretch
     ensures { λ r. ⌜ r ≡ stretchIn (from .0) (to .0) v ⌝ }
 {
     let slack = v.slack;
-    Stretch { from, to, slack, tight: tight_in(v) }
+    Stretch {
+        from,
+        to,
+        slack,
+        tight: tight_in(v),
+    }
+}
+
+fn has_day(t: Stretch) -> bool
+    ensures { λ r. ⌜ r ≡ ltZ (t .from .0) (t .to .0) ⌝ }
+{
+    t.from.0 < t.to.0
 }
 
 fn is_worth(t: Stretch, c: Common) -> bool
     ensures { λ r. ⌜ r ≡ worth c t ⌝ }
 {
-    let from = t.from;
     let slack = t.slack;
     let tight = t.tight;
-    if from.before(t.to) {
+    if has_day(t) {
         if slack.below(c.bar) {
             return true;
         }
@@ -325,7 +383,10 @@ fn sweep(keys: &[u64], start: Power, c: Common, s: &mut [[i64; 4]]) -> usize
     ensures { λ r. ⌜ Laid (stretchesOf (now (s .entry))) (stretchesOf (now (s .exit))) 0 r (swept c (c .low .0) (level (start .0) (pos 0)) (now (keys .entry))) ⌝ }
     ensures { λ r. ⌜ r ≤ length (now (s .exit)) ⌝ }
 {
-    let mut v = Level { slack: start, sure: Count(0) };
+    let mut v = Level {
+        slack: start,
+        sure: Count(0),
+    };
     let mut from = c.low;
     let mut n: usize = 0;
     let mut j: usize = 0;
@@ -405,5 +466,8 @@ pub fn profile(
     let c = q.common;
     let m = sweep_events(keys, n, spare, limit.negated(), c, ss);
     let k = first_short(ss, m);
-    Profiled { stretches: m, short: k < m }
+    Profiled {
+        stretches: m,
+        short: k < m,
+    }
 }

@@ -1,5 +1,4 @@
 -- `profile::bar_of`: the larger of 0 and the highest height negated.
-use native.Mathlib.Omega.{arith}
 use Rattle.integers.proofs.Z.{z, ~z}
 use Rattle.profile.specs.Events.{barOf}
 use Rattle.profile.proofs.Fit.{fit-is}

@@ -1,5 +1,4 @@
 -- `profile::changed`: both sums, one key more.
-use mathlib.Core.Path.{_≡_, refl, sym, _∙_}
 use Rattle.profile.specs.Sweep.{changed}
 use borrow.Author.Needs.{needs}
 use Rattle.profile.proofs.changed.Statement.{statement}

@@ -1,12 +1,12 @@
 -- `profile::collect`: the keys so far, joined to those of the tasks left, are the answer; and what the tasks have in common likewise.
 use native.Mathlib.Omega.{arith}
-use mathlib.Core.Path.{_≡_, refl, sym, ap, _∙_}
+use mathlib.Core.Path.{_≡_, refl, _∙_}
 use mathlib.Core.List.{_++_, append-nil}
-use Prim.Native.Nat.{ℕ, _+_, _*_, _-_, _≤_, _<_}
+use Prim.Native.Nat.{_*_, _-_, _≤_, _<_}
 use lib.ListN.{length, take, drop, getD}
 use Rattle.rows.specs.View.{tasksOf, noTask}
 use Rattle.rows.proofs.View.{length-tasks}
-use Rattle.profile.specs.Events.{keysOf, common, nobody, joined, eventsOf}
+use Rattle.profile.specs.Events.{keysOf, common, nobody}
 use Rattle.profile.proofs.Laid.{laid-all}
 use Rattle.profile.proofs.Loops.{events-few, keys-more, common-more, keys-end, common-end}
 use Rattle.profile.proofs.collect.Statement.{statement}
@@ -52,8 +52,7 @@ loop-again c =
     let ts = tasksOf (a .args .s .now) in
     let r = a .args .r in
     let i = l .loop .i in
-    let h : i < length ts = omega (arith, length-tasks (a .args .s .now)) in
-    (
+    let h : i < length ts = omega (arith, length-tasks (a .args .s .now)) in (
       omega arith,
       omega arith,
       omega (arith, k .ensures .0 .many, events-few r (getD ts i noTask)),

@@ -1,6 +1,6 @@
 -- `profile::collect_task`: with or without the resource in its set.
 use native.Mathlib.Omega.{arith}
-use mathlib.Core.Path.{_≡_, refl, sym, ap, _∙_}
+use mathlib.Core.Path.{refl, sym, _∙_}
 use Rattle.profile.specs.Events.{eventsOf, joined}
 use Rattle.profile.proofs.Laid.{laid-none}
 use borrow.Author.Needs.{needs}

@@ -1,6 +1,6 @@
 -- `profile::day_of`: the part, less what it was moved up by.
 use native.Mathlib.Omega.{arith}
-use Prim.Native.Nat.{_/_, _%_}
+use Prim.Native.Nat.{_/_}
 use Rattle.profile.specs.Keys.{dayOf}
 use Rattle.profile.proofs.Keys.{less-fits, less-is}
 use borrow.Author.Needs.{needs}

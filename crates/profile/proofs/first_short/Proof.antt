@@ -1,12 +1,12 @@
 -- `profile::first_short`: no stretch before k has a negative tight slack.
 use native.Mathlib.Omega.{arith}
 use native.Mathlib.Nat.{not-suc-le-zero}
-use mathlib.Core.Path.{_≡_, refl, sym, ap, _∙_}
+use mathlib.Core.Path.{_≡_, sym, _∙_}
 use mathlib.Core.Bool.{true, false}
-use Prim.Native.Nat.{ℕ, _+_, _-_, _≤_, _<_}
+use Prim.Native.Nat.{ℕ, _-_, _≤_, _<_}
 use borrow.Author.Count.{below-more}
 use lib.IntN.{pos}
-use lib.ListN.{length, getD}
+use lib.ListN.{getD}
 use lib.Signed.{_≤ℤ_, ltZ}
 use Rattle.integers.proofs.Z.{z}
 use Rattle.stretches.specs.View.{stretchesOf, noStretch}

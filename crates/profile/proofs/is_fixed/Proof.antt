@@ -1,5 +1,5 @@
 -- `profile::is_fixed`: the second test only where the first holds.
-use mathlib.Core.Path.{_≡_, refl, sym, _∙_}
+use mathlib.Core.Path.{sym, _∙_}
 use Rattle.profile.specs.Events.{fixed}
 use borrow.Author.Needs.{needs}
 use Rattle.profile.proofs.is_fixed.Statement.{statement}

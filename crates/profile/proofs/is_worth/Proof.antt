@@ -1,12 +1,12 @@
 -- `profile::is_worth`: the three tests, each only where the one before leaves the answer open.
-use mathlib.Core.Path.{_≡_, refl, sym, _∙_}
+use mathlib.Core.Path.{sym, _∙_}
 use Rattle.profile.specs.Sweep.{worth}
 use borrow.Author.Needs.{needs}
 use Rattle.profile.proofs.is_worth.Statement.{statement}
 use Rattle.profile.proofs.is_worth.Tie as tie
 
-before-requires : tie.Need-before-requires
-before-requires c κs = search needs
+has-day-requires : tie.Need-has-day-requires
+has-day-requires c κs = search needs
 
 below-requires : tie.Need-below-requires
 below-requires c κs = search needs
@@ -15,7 +15,7 @@ returns : tie.Need-returns
 unfolding worth
 returns c =
     let d = c .before .before in
-    rw (sym (d .before .before2 .ensures) ∙ d .if1 .taken, sym (c .before .below .ensures) ∙ c .if2 .taken)
+    rw (sym (d .before .has-day .ensures) ∙ d .if1 .taken, sym (c .before .below .ensures) ∙ c .if2 .taken)
 
 below-requires-2 : tie.Need-below-requires-2
 below-requires-2 c κs = search needs
@@ -24,13 +24,13 @@ returns-2 : tie.Need-returns-2
 unfolding worth
 returns-2 c =
     let d = c .before .before .before in
-    rw (sym (d .before .before2 .ensures) ∙ d .if1 .taken, sym (c .before .before .below .ensures) ∙ c .before .if2 .left) (c .below2 .ensures)
+    rw (sym (d .before .has-day .ensures) ∙ d .if1 .taken, sym (c .before .before .below .ensures) ∙ c .before .if2 .left) (c .below2 .ensures)
 
 returns-3 : tie.Need-returns-3
 unfolding worth
-returns-3 c = rw (sym (c .before .before2 .ensures) ∙ c .if1 .left)
+returns-3 c = rw (sym (c .before .has-day .ensures) ∙ c .if1 .left)
 
 pub is-worth-spec : {M : Type 1} → statement M
 is-worth-spec =
     tie.close
-    (tie.spec before-requires below-requires returns below-requires-2 returns-2 returns-3)
+    (tie.spec has-day-requires below-requires returns below-requires-2 returns-2 returns-3)

@@ -1,5 +1,4 @@
 -- `profile::lift_of`: the highest height, or its distance from the lowest where that is more.
-use native.Mathlib.Omega.{arith}
 use Rattle.integers.proofs.Z.{z, -z}
 use Rattle.profile.specs.Events.{liftOf}
 use Rattle.profile.proofs.Fit.{fit-is}

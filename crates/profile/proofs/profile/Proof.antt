@@ -1,7 +1,5 @@
 -- `profile::profile`: events, stretches and shortfall, joined by one law.
 use native.Mathlib.Omega.{arith}
-use mathlib.Core.Path.{_≡_, refl, sym, ap, _∙_}
-use lib.ListN.{length, take, getD}
 use Rattle.integers.proofs.Z.{z, ~z}
 use Rattle.rows.specs.View.{tasksOf}
 use Rattle.rows.proofs.View.{length-tasks}
@@ -26,8 +24,7 @@ sweep-events-requires c κs =
     let a = c .before .before .before .before .before .before .before .before .before .before .before in
     let l = a .pre .0 in
     let e = q .ensures .1 .1 in
-    let x = a .args .limit .0 in
-    (
+    let x = a .args .limit .0 in (
       (omega (arith, e, q .kept .1 .1 .0, l), e, omega (arith, e, l), omega (arith, e, l)),
       rw (c .before .negated .ensures) (omega (z, ~z x, l .least, l .most), omega (z, ~z x, l .least, l .most)),
     )
@@ -55,11 +52,10 @@ returns c =
     let l = a .pre .0 in
     let x = a .args .limit .0 in
     let ts = tasksOf (a .args .s .now) in
-    let ss = stretchesOf (w .last .1 .1 .1 .1 .1 .0) in
-    (
+    let ss = stretchesOf (w .last .1 .1 .1 .1 .1 .0) in (
       omega (arith, w .ensures .few, length-stretches (w .last .1 .1 .1 .1 .1 .0)),
       profiled (a .args .r) x ts _ (q .result .common) ss (w .result) (c .first-short .result) (a .pre .1) (omega (arith, l .tasks-few, length-tasks (a .args .s .now))) (l .least) (l .most)
-      (q .ensures .0 .front) (q .ensures .1 .0) (rw (g .ensures) at (w .ensures)) (c .first-short .ensures),
+          (q .ensures .0 .front) (q .ensures .1 .0) (rw (g .ensures) at (w .ensures)) (c .first-short .ensures),
     )
 
 pub profile-spec : {M : Type 1} → statement M

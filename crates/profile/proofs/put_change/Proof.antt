@@ -1,5 +1,4 @@
 -- `profile::put_change`: two keys, one behind the other.
-use mathlib.Core.Path.{_≡_, refl, sym, _∙_}
 use native.Mathlib.Omega.{arith}
 use lib.ListN.{length-set}
 use Rattle.integers.proofs.Z.{z}

@@ -1,6 +1,6 @@
 -- `profile::put_events`: one way through the tests for each line of the definition.
 use native.Mathlib.Omega.{arith}
-use mathlib.Core.Path.{_≡_, refl, sym, _∙_}
+use mathlib.Core.Path.{sym, _∙_}
 use lib.IntN.{pos}
 use Rattle.integers.proofs.Z.{z}
 use Rattle.profile.specs.Events.{changeKeys, taskKeys}

@@ -1,5 +1,5 @@
 -- `profile::put_worthy`: a store where it is worth it, else nothing.
-use mathlib.Core.Path.{_≡_, refl, sym, _∙_}
+use mathlib.Core.Path.{sym, _∙_}
 use native.Mathlib.Omega.{arith}
 use Rattle.profile.proofs.Laid.{laid-none, laid-one}
 use Rattle.stretches.specs.View.{stretchesOf}

@@ -1,12 +1,11 @@
 -- `profile::sweep`: the stretches so far, joined to those that the keys left will make, are the answer.
 use native.Mathlib.Omega.{arith}
-use mathlib.Core.Path.{_≡_, refl, sym, ap, _∙_}
+use mathlib.Core.Path.{_≡_, refl, _∙_}
 use mathlib.Core.List.{_++_}
-use Prim.Native.Nat.{ℕ, _+_, _-_, _≤_, _<_}
+use Prim.Native.Nat.{_-_, _≤_, _<_}
 use lib.ListN.{length, take, drop, getD}
 use Rattle.stretches.specs.View.{stretchesOf}
 use Rattle.stretches.proofs.View.{length-stretches}
-use Rattle.integers.proofs.Z.{z}
 use Rattle.profile.specs.Sweep.{swept}
 use Rattle.profile.proofs.Laid.{laid-all}
 use Rattle.profile.proofs.Loops.{Small, small-start, small-fits, small-more, swept-more, swept-end, worthy-few}
@@ -64,14 +63,13 @@ loop-again c =
     let a = l .before .before .before .args in
     let ks = a .keys .now in
     let j = l .loop .j in
-    let h : j < length ks = c .before .before .before .before .before .before .before .loop-test .taken in
-    (
+    let h : j < length ks = c .before .before .before .before .before .before .before .loop-test .taken in (
       omega arith,
       omega (arith, p .ensures .many, worthy-few (a .c) (t .result), l .loop .inv .1),
       omega (arith, p .kept, l .loop .inv .2),
       rw (c .changed .ensures) (small-more j (l .loop .v) (getD ks j 0) (l .loop .inv .3)),
       rw (c .changed .ensures, d .ensures)
-      (swept-more (a .c) ks j h _ _ _ _ (l .loop .from .0) (l .loop .v) (rw (t .ensures, d .ensures) at (p .ensures)) ∙ l .loop .inv .4),
+          (swept-more (a .c) ks j h _ _ _ _ (l .loop .from .0) (l .loop .v) (rw (t .ensures, d .ensures) at (p .ensures)) ∙ l .loop .inv .4),
     )
 
 stretch-in-requires-2 : tie.Need-stretch-in-requires-2 Inv-loop μ-loop
@@ -90,10 +88,9 @@ returns c =
     let l = c .before .before .before .before .before in
     let a = l .before .before .before .args in
     let ks = a .keys .now in
-    let m : p .result ≤ length (p .last .0) = omega (arith, p .ensures .many, worthy-few (a .c) (t .result)) in
-    (
+    let m : p .result ≤ length (p .last .0) = omega (arith, p .ensures .many, worthy-few (a .c) (t .result)) in (
       laid-all _ _ (p .result) _ (omega (arith, m, length-stretches (p .last .0)))
-      (swept-end (a .c) ks (l .loop .j) (omega arith) _ _ _ _ (l .loop .from .0) (l .loop .v) (rw (t .ensures) at (p .ensures)) ∙ l .loop .inv .4),
+          (swept-end (a .c) ks (l .loop .j) (omega arith) _ _ _ _ (l .loop .from .0) (l .loop .v) (rw (t .ensures) at (p .ensures)) ∙ l .loop .inv .4),
       m,
     )
 

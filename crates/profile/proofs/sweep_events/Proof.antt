@@ -1,9 +1,8 @@
 -- `profile::sweep_events`: the front that was lent and sorted is what is swept.
 use native.Mathlib.Omega.{arith}
-use mathlib.Core.Path.{_≡_, refl, sym, ap, _∙_}
-use lib.ListN.{length, take, length-take}
+use mathlib.Core.Path.{_≡_}
+use lib.ListN.{length, length-take}
 use Rattle.profile.proofs.Laid.{front}
-use Rattle.stretches.specs.View.{stretchesOf}
 use Rattle.stretches.proofs.View.{length-stretches}
 use borrow.Author.Needs.{needs}
 use Rattle.profile.proofs.sweep_events.Statement.{statement}

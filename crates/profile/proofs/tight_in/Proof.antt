@@ -1,5 +1,5 @@
 -- `profile::tight_in`: the slack where a task is sure.
-use mathlib.Core.Path.{_≡_, refl, sym, _∙_}
+use mathlib.Core.Path.{sym, _∙_}
 use Rattle.profile.specs.Sweep.{tightIn}
 use borrow.Author.Needs.{needs}
 use Rattle.profile.proofs.tight_in.Statement.{statement}

@@ -1,6 +1,6 @@
 -- `profile::Count::negated`: by that of a number.
 use native.Mathlib.Omega.{arith}
-use mathlib.Core.Path.{_≡_, refl, sym, _∙_}
+use mathlib.Core.Path.{_≡_}
 use lib.IntN.{negℤ}
 use mir.Syntax.{w64}
 use mir.Val.{toZ, ofZ}
