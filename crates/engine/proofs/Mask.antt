@@ -61,8 +61,8 @@ beside-of r (more-subs {u} {t} {us} {ts} s f) (more-lives l k) h =
     by-cases (sameTask t u)
     (λ e. subst (λ (x : Task). Beside r (t ∷ ts) (x ∷ us)) (same-task-is t u e) (same-task (beside-of r f k (rw e at h))))
     (λ e.
-      let n = union-none (t .set) (touchedBy ts us) r (rw e at h) in
-      other-task (n .0) (false-in (has (u .set) r) (λ q. clash (has (t .set) r) (s .set r q) (n .0))) l (beside-of r f k (n .1)))
+    let n = union-none (t .set) (touchedBy ts us) r (rw e at h) in
+    other-task (n .0) (false-in (has (u .set) r) (λ q. clash (has (t .set) r) (s .set r q) (n .0))) l (beside-of r f k (n .1)))
 
 -- ---- a step that touches no task on its own resource changes nothing
 pub record First (n : Narrowed) (o : Outcome) (us : List Task) : Type 0 where
@@ -78,7 +78,7 @@ first-of (Kept t) NoPlan us e = let q : _≡_ {A = ℕ} 0 1 = cc in absurd (omeg
 first-of (Kept t) (Plan vs) us e = record { task = t; rest = vs; kept = refl; plan = refl; all = cc }
 
 untouched : (f : Task → Narrowed) (r : ℕ) → ((t : Task) → has (t .set) r ≡ false → Live t → f t ≡ Kept t)
-  → {ts : List Task} → Lives ts → (us : List Task) → each f ts ≡ Plan us → has (touchedBy ts us) r ≡ false → us ≡ ts
+    → {ts : List Task} → Lives ts → (us : List Task) → each f ts ≡ Plan us → has (touchedBy ts us) r ≡ false → us ≡ ts
 unfolding each touchedBy
 untouched f r away no-lives us e h = cc
 untouched f r away (more-lives {t} {ts} l k) us e h =
@@ -88,11 +88,11 @@ untouched f r away (more-lives {t} {ts} l k) us e h =
     let g : has (touchedBy (t ∷ ts) (u ∷ vs)) r ≡ false = subst (λ (x : List Task). has (touchedBy (t ∷ ts) x) r ≡ false) (p .all) h in
     p .all
     ∙ by-cases (sameTask t u)
-      (λ q. ap₂ (λ (x : Task) (xs : List Task). x ∷ xs) (sym (same-task-is t u q)) (untouched f r away k vs (p .plan) (rw q at g)))
-      (λ q.
-        let n = union-none (t .set) (touchedBy ts vs) r (rw q at g) in
-        let same : u ≡ t = cc (away t (n .0) l, p .kept) in
-        ap₂ (λ (x : Task) (xs : List Task). x ∷ xs) same (untouched f r away k vs (p .plan) (n .1)))
+    (λ q. ap₂ (λ (x : Task) (xs : List Task). x ∷ xs) (sym (same-task-is t u q)) (untouched f r away k vs (p .plan) (rw q at g)))
+    (λ q.
+    let n = union-none (t .set) (touchedBy ts vs) r (rw q at g) in
+    let same : u ≡ t = cc (away t (n .0) l, p .kept) in
+    ap₂ (λ (x : Task) (xs : List Task). x ∷ xs) same (untouched f r away k vs (p .plan) (n .1)))
 
 if-plan : (b : Bool) (o : Outcome) (us : List Task) → if b NoPlan o ≡ Plan us → o ≡ Plan us
 if-plan true o us e = let q : _≡_ {A = ℕ} 0 1 = cc in absurd (omega arith)
@@ -129,7 +129,7 @@ module _ (qs : List Resource) (ts us : List Task) (a : check qs ts ≡ Accepted)
     lives-after = check-live qs us (k .accepted)
 
     idle-after : (mask : ℕ) → Idle mask qs ts → (r : ℕ) → r < length qs → has mask r ≡ false → has (touchedBy ts us) r ≡ false
-      → atLeastStep r (limitOn (getD qs r noResource)) us ≡ Plan us
+        → atLeastStep r (limitOn (getD qs r noResource)) us ≡ Plan us
     idle-after mask idle r h c t =
         step-elsewhere r (limitOn (getD qs r noResource)) ts us (beside-of r (k .inside) lives-after t) (idle r h c)
 
@@ -149,7 +149,7 @@ module _ (qs : List Resource) (ts us : List Task) (a : check qs ts ≡ Accepted)
         }
 
     pub step-noted : (mask : ℕ) (before : Bool) (r : ℕ) → atLeastStep r (limitOn (getD qs r noResource)) ts ≡ Plan us → Idle mask qs ts
-      → Noted qs ts us before (or before (not (eqb (touchedBy ts us) 0))) (union (without mask r) (touchedBy ts us))
+        → Noted qs ts us before (or before (not (eqb (touchedBy ts us) 0))) (union (without mask r) (touchedBy ts us))
     step-noted mask before r e idle =
         record {
           idle =
@@ -157,13 +157,13 @@ module _ (qs : List Resource) (ts us : List Task) (a : check qs ts ≡ Accepted)
               let n = union-none (without mask r) (touchedBy ts us) p c in
               by-cases (eqb p r)
               (λ q.
-                let same = eqb-true p r q in
-                let still = step-untouched r (limitOn (getD qs r noResource)) ts us (check-live qs ts a) e (rw same at (n .1)) in
-                rw (same, still) (subst (λ (x : List Task). atLeastStep r (limitOn (getD qs r noResource)) ts ≡ Plan x) still e))
+              let same = eqb-true p r q in
+              let still = step-untouched r (limitOn (getD qs r noResource)) ts us (check-live qs ts a) e (rw same at (n .1)) in
+              rw (same, still) (subst (λ (x : List Task). atLeastStep r (limitOn (getD qs r noResource)) ts ≡ Plan x) still e))
               (λ q.
-                idle-after mask idle p h
-                (false-in (has mask p) (λ m. clash (has (without mask r) p) (without-keeps mask r p m (λ s. clash (eqb p r) (eqb-in p r s) q)) (n .0)))
-                (n .1));
+              idle-after mask idle p h
+              (false-in (has mask p) (λ m. clash (has (without mask r) p) (without-keeps mask r p m (λ s. clash (eqb p r) (eqb-in p r s) q)) (n .0)))
+              (n .1));
           changed = changed-after before;
         }
 

@@ -36,7 +36,7 @@ use Rattle.engine.proofs.Mask.{step-keeps, unchanged-noted}
 
 -- the step of place r, then those after it
 pub steps-more : (r : ℕ) (qs : List Resource) (ts : List Task) → r < length qs
-  → stepsFrom AtLeast r (drop r qs) ts ≡ then (atLeastStep r (limitOn (getD qs r noResource)) ts) (stepsFrom AtLeast (r + 1) (drop (r + 1) qs))
+    → stepsFrom AtLeast r (drop r qs) ts ≡ then (atLeastStep r (limitOn (getD qs r noResource)) ts) (stepsFrom AtLeast (r + 1) (drop (r + 1) qs))
 unfolding stepsFrom resourceStep
 steps-more r qs ts h = rw (add-one, drop-cons qs r noResource)
 
@@ -79,9 +79,9 @@ module _ (qs : List Resource) (ts : List Task) (a : check qs ts ≡ Accepted) wh
       by-cases (sameTasks ts us)
       (λ s. rw s (ap (λ (x : List Task). not (sameTasks x vs)) (sym (same-tasks-is ts us s))))
       (λ s.
-        let x = keeps-less AtLeast qs ts us a k s in
-        let y = keeps-rooms AtLeast qs us vs (k .accepted) g in
-        rw s (sym (ap not (less-changed vs ts (omega arith)))))
+      let x = keeps-less AtLeast qs ts us a k s in
+      let y = keeps-rooms AtLeast qs us vs (k .accepted) g in
+      rw s (sym (ap not (less-changed vs ts (omega arith)))))
 
   -- what two steps in a row note
   pub noted-more : (us vs : List Task) → Keeps AtLeast qs ts us → Keeps AtLeast qs us vs → (before between after : Bool) (m n : ℕ) → Noted qs ts us before between m → Noted qs us vs between after n → Noted qs ts vs before after n
@@ -103,8 +103,8 @@ module _ (qs : List Resource) (ts : List Task) (a : check qs ts ≡ Accepted) wh
 
   -- after the step of place r
   pub passing-more : (before : Bool) (r : ℕ) (ok changed : Bool) (mask : ℕ) (us : List Task) → r < length qs → ok ≡ true → Passing qs ts before r ok changed mask us
-    → (is after : Bool) (next : ℕ) (vs : List Task) → outcomeOf is vs ≡ atLeastStep r (limitOn (getD qs r noResource)) us
-    → (is ≡ true → Noted qs us vs changed after next) → Passing qs ts before (r + 1) is after next vs
+      → (is after : Bool) (next : ℕ) (vs : List Task) → outcomeOf is vs ≡ atLeastStep r (limitOn (getD qs r noResource)) us
+      → (is ≡ true → Noted qs us vs changed after next) → Passing qs ts before (r + 1) is after next vs
   passing-more before r ok changed mask us l t p is after next vs e f =
       let g = p .going t in
       record {
@@ -135,7 +135,7 @@ module _ (qs : List Resource) (ts : List Task) (a : check qs ts ≡ Accepted) wh
   steps-keep us e =
       subst (Sound AtLeast qs ts) (sym (steps-play AtLeast qs 0 qs (λ k q at. at) ts) ∙ e) (play-sound AtLeast qs (map StepOf (places 0 (length qs))) ts a)
 
--- ---- a pass: balance, then the steps
+  -- ---- a pass: balance, then the steps
   pub pass-none : (ok : Bool) (us : List Task) → outcomeOf ok us ≡ balance ts → ok ≡ false → outcomeOf ok us ≡ pass AtLeast qs ts
   unfolding pass
   pass-none ok us e n =

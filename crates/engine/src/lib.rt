@@ -250,7 +250,11 @@ fn is_placed(c: Call, resources: usize) -> bool
 fn left(ok: bool) -> Settling
     ensures { λ r. ⌜ r ≡ leftOf ok ⌝ }
 {
-    if ok { Settling::After(0) } else { Settling::NoPlan }
+    if ok {
+        Settling::After(0)
+    } else {
+        Settling::NoPlan
+    }
 }
 
 fn all_due() -> Passed

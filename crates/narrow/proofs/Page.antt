@@ -65,15 +65,15 @@ module _ (r : ℕ) (limit : ℤ → ℤ) (ts : List Task) (t : Task) (fit : Fit 
           let g : h ≡ out .height .high .0 = ap (λ (p : Power). p .0) (sym (l .high)) in
           by-cases (ltZ (t .height .low .0) h)
           (λ e.
-            let p = l .raised e in
-            let x = p .slack in
-            let a = least-full r limit ts t fit k ss tells alone enough x (p .least) in
-            let i = p .is in
-            let f : h -ℤ x ≡ out .height .low .0 = omega (z, -z h x, -z h (larger x (pos 0)), maxz x (pos 0)) in
-            height-lifted r limit ts t fit k ss tells alone enough x (p .least) ∙ ap₂ (λ (x y : ℤ). Some (range x y)) f g)
+          let p = l .raised e in
+          let x = p .slack in
+          let a = least-full r limit ts t fit k ss tells alone enough x (p .least) in
+          let i = p .is in
+          let f : h -ℤ x ≡ out .height .low .0 = omega (z, -z h x, -z h (larger x (pos 0)), maxz x (pos 0)) in
+          height-lifted r limit ts t fit k ss tells alone enough x (p .least) ∙ ap₂ (λ (x y : ℤ). Some (range x y)) f g)
           (λ e.
-            let f : t .height .low .0 ≡ out .height .low .0 = ap (λ (p : Power). p .0) (sym (l .same e)) in
-            height-flat r limit ts t fit k enough (omega z) ∙ ap₂ (λ (x y : ℤ). Some (range x y)) f g)
+          let f : t .height .low .0 ≡ out .height .low .0 = ap (λ (p : Power). p .0) (sym (l .same e)) in
+          height-flat r limit ts t fit k enough (omega z) ∙ ap₂ (λ (x y : ℤ). Some (range x y)) f g)
 
       pub only-page : out .set ≡ u .set → Freed (shut r limit ts t) (t .duration .low .0) (u .origin) (out .origin) → Freed (shut r limit ts t) (t .duration .low .0) (earlier (t .duration .low .0) (u .end)) (earlier (t .duration .low .0) (out .end)) → out .duration .low .0 ≡ t .duration .low .0 → Longest (shut r limit ts t) (t .origin .low .0) (t .end .high .0) (t .duration .high .0) (out .duration .high .0) → Lifted t ss (out .height) → finished out ≡ narrowed r limit ts (listedDays ts) t
       only-page a o e d l h =
@@ -168,10 +168,11 @@ module _ (r : ℕ) (limit : ℤ → ℤ) (ts : List Task) (t : Task) (fit : Fit 
       (left-end r limit ts t k (t .end) (t .end)
       (still-cut (earlier du (t .end))
       (λ v a b i c d.
-        let a' : (t .end .low .0 -ℤ du) ≤ℤ v = a in
-        let b' : v ≤ℤ (t .end .high .0 -ℤ du) = b in
-        ( omega (z, -z i du, +z (i -ℤ du) (pos 1), -z (t .end .low .0) du),
-          omega (z, -z (t .end .high .0) du, +z ol du) )))
+      let a' : (t .end .low .0 -ℤ du) ≤ℤ v = a in
+      let b' : v ≤ℤ (t .end .high .0 -ℤ du) = b in (
+        omega (z, -z i du, +z (i -ℤ du) (pos 1), -z (t .end .low .0) du),
+        omega (z, -z (t .end .high .0) du, +z ol du),
+      )))
       (freed-none q dl (earlier dl (t .end)) never-shut))
       (height-flat r limit ts t fit k enough (still .height))
       (set-same r limit ts t fit k ss tells (still .alone) enough ∙ set-alone r limit ts t fit k ss tells (still .alone))

@@ -74,13 +74,13 @@ module _ (r : ℕ) (limit : ℤ → ℤ) (ts : List Task) (t : Task) (fit : Fit 
       let a = fit .height in
       let x = t .height .high .0 in
       let f : (v : ℤ) → x ≤ℤ v → keepsHeight r limit ts (listedDays ts) t v ≡ true =
-        λ v l.
-        height-kept v
-        (λ i s.
-          let e = lifted-is r limit ts t i fit s in
-          let g = no-short r limit ts t fit k enough i s in
-          let y = total r ts i -ℤ limit i in
-          omega (z, -z (total r ts i) (limit i), -z x y)) in
+      λ v l.
+      height-kept v
+      (λ i s.
+      let e = lifted-is r limit ts t i fit s in
+      let g = no-short r limit ts t fit k enough i s in
+      let y = total r ts i -ℤ limit i in
+      omega (z, -z (total r ts i) (limit i), -z x y)) in
       left-is (keepsHeight r limit ts (listedDays ts) t) (powersOf (t .height)) (t .height .low .0) x (omega z) (omega z) (f (t .height .low .0) flat) (f x (omega z))
       (λ u w e. (w .least, w .most))
 

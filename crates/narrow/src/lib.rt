@@ -309,7 +309,11 @@ pub fn same_span(a: Span, b: Span) -> bool
     let most = b.high;
     if low.until(least) {
         if least.until(low) {
-            if high.until(most) { most.until(high) } else { false }
+            if high.until(most) {
+                most.until(high)
+            } else {
+                false
+            }
         } else {
             false
         }
@@ -659,7 +663,11 @@ pub fn is_still(t: Task, r: u64) -> bool
     if plan::only_resource(t.set, r) {
         if first.until(start) {
             if high.until(low) {
-                if height.high.up_to(least) { high.until(start.plus(duration.high)) } else { false }
+                if height.high.up_to(least) {
+                    high.until(start.plus(duration.high))
+                } else {
+                    false
+                }
             } else {
                 false
             }

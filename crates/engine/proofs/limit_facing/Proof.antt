@@ -36,7 +36,7 @@ negated-requires c κs =
     let x = b .limit-at .result in
     let e = limit-most (a .sense) (resourcesOf (a .q .now)) (a .r) (inside (b .before)) (c .enum-told2 .given .1) in
     let f : powerFits (power (negℤ (x .0))) ≡ true =
-      ap (λ (p : Power). powerFits (power (negℤ (p .0)))) (b .limit-at .ensures) ∙ ap powerFits (sym e) ∙ b .before .pre .1 in
+    ap (λ (p : Power). powerFits (power (negℤ (p .0)))) (b .limit-at .ensures) ∙ ap powerFits (sym e) ∙ b .before .pre .1 in
     let h = limit-out (power (negℤ (x .0))) f in
     omega (z, ~z (x .0))
 

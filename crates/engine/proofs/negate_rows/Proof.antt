@@ -31,7 +31,7 @@ negated-task-requires c κs =
     let l = c .before .before .before .before in
     let ts = tasksOf (l .before .args .s .now) in
     let e : c .before .task-at .result ≡ getD ts (l .loop .i) noTask =
-      c .before .task-at .ensures ∙ ap (λ (x : List Task). getD x (l .loop .i) noTask) (l .loop .inv .2) ∙ mapped-at negated noTask (l .loop .i) ts in
+    c .before .task-at .ensures ∙ ap (λ (x : List Task). getD x (l .loop .i) noTask) (l .loop .inv .2) ∙ mapped-at negated noTask (l .loop .i) ts in
     subst Bounded (sym e) (l .before .pre (l .loop .i) (omega (arith, length-tasks (l .before .args .s .now))))
 
 put-task-requires : tie.Need-put-task-requires Inv-loop μ-loop

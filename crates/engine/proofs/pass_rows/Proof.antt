@@ -75,8 +75,7 @@ returns : tie.Need-returns
 returns c =
     let d = c .before .before .before .before .before in
     let b = c .before .before .before .before .before .before .before .before .before in
-    let no = not-true (d .balance .result .ok) (c .if1 .taken) in
-    (
+    let no = not-true (d .balance .result .ok) (c .if1 .taken) in (
       pass-none (qs b) (ts b) (b .pre .0) (d .balance .result .ok) (tasksOf (d .balance .last .0)) (d .balance .ensures .0) no,
       λ h. clash (d .balance .result .ok) h no,
     )
@@ -116,13 +115,12 @@ returns-2 c =
     let ok = is-true (d .balance .result .ok) (c .before .before .before .before .before .before .before .before .before .before .before .if1 .left) in
     let us = tasksOf (d .balance .last .0) in
     let vs = tasksOf (e .steps-rows .last .1 .1 .0) in
-    let k = keeps d ok in
-    (
+    let k = keeps d ok in (
       e .steps-rows .ensures .0 ∙ sym (pass-plan (qs b) (ts b) (b .pre .0) us (plan d ok)),
       λ h.
-      let g = steps-keep (qs b) us (k .accepted) vs (sym (e .steps-rows .ensures .0) ∙ ap (λ (x : Bool). outcomeOf x vs) h) in
-      noted-more (qs b) (ts b) (b .pre .0) us vs k g false (c .before .before .before .before .before .before .before .before .before .before .before .before .before .before .some-touched .result) (e .steps-rows .result .changed) (union (b .args .mask) (d .balance .result .touched)) (e .steps-rows .result .mask)
-      (rw (c .before .before .before .before .before .before .before .before .before .before .before .before .before .before .some-touched .ensures) (noted d ok)) (e .steps-rows .ensures .1 h),
+          let g = steps-keep (qs b) us (k .accepted) vs (sym (e .steps-rows .ensures .0) ∙ ap (λ (x : Bool). outcomeOf x vs) h) in
+          noted-more (qs b) (ts b) (b .pre .0) us vs k g false (c .before .before .before .before .before .before .before .before .before .before .before .before .before .before .some-touched .result) (e .steps-rows .result .changed) (union (b .args .mask) (d .balance .result .touched)) (e .steps-rows .result .mask)
+          (rw (c .before .before .before .before .before .before .before .before .before .before .before .before .before .before .some-touched .ensures) (noted d ok)) (e .steps-rows .ensures .1 h),
     )
 
 pub pass-rows-spec : {M : Type 1} → statement M

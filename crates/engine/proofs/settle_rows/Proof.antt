@@ -46,8 +46,7 @@ pass-rows-requires : tie.Need-pass-rows-requires Inv-loop μ-loop
 pass-rows-requires c κs =
     let l = c .before .before .before .before in
     let b = l .before .before .before in
-    let g = l .loop .inv .4 in
-    (
+    let g = l .loop .inv .4 in (
       g .accepted,
       (
         g .idle,
@@ -141,13 +140,12 @@ loop-less c =
 
 -- src/lib.rt:193:5
 loop-again : tie.Need-loop-again Inv-loop μ-loop
-loop-again c =
-    (
-      omega arith,
-      omega arith,
-      omega arith,
-      omega arith,
-      let d = c .before .before .before .before .before .before .before .before .before .before in
+loop-again c = (
+  omega arith,
+  omega arith,
+  omega arith,
+  omega arith,
+  let d = c .before .before .before .before .before .before .before .before .before .before in
       let l = c .before .before .before .before .before .before .before .before .before .before .before .before .before .before .before in
       let b = c .before .before .before .before .before .before .before .before .before .before .before .before .before .before .before .before .before .before in
       let g = l .loop .inv .4 in
@@ -158,7 +156,7 @@ loop-again c =
       let p = d .pass-rows .result in
       let ok = is-true (p .ok) (c .before .before .if1 .left) in
       settles-more qs ts us (l .loop .mask) (l .loop .passes) g (p .ok) vs (d .pass-rows .ensures .0) ok (p .changed) (p .mask) (d .pass-rows .ensures .1 ok) (is-true (p .changed) (c .if2 .left)),
-    )
+)
 
 pub settle-rows-spec : {M : Type 1} → statement M
 settle-rows-spec =

@@ -62,8 +62,7 @@ step-requires : tie.Need-step-requires
 step-requires c κs =
     let b = c .before .before .before .before .before .before .before .before .before in
     let a = b .args in
-    let k = known b in
-    (
+    let k = known b in (
       record {
         place = small b;
         few = k .few;
@@ -100,21 +99,19 @@ returns c =
     let r = b .args .r in
     let us = tasksOf (d .step .last .0) in
     let o : outcomeOf (d .step .result .ok) us ≡ atLeastStep r (limitOn (getD (qs b) r noResource)) (ts b) =
-      d .step .ensures .0 ∙ limited r (l .limit-facing .result) (getD (qs b) r noResource) (ts b) (l .limit-facing .ensures) in
-    (
+    d .step .ensures .0 ∙ limited r (l .limit-facing .result) (getD (qs b) r noResource) (ts b) (l .limit-facing .ensures) in (
       o,
       λ ok.
-      let plan : atLeastStep r (limitOn (getD (qs b) r noResource)) (ts b) ≡ Plan us = sym o ∙ ap (λ (x : Bool). outcomeOf x us) ok in
-      let k = step-keeps (qs b) (ts b) us (b .pre .0 .2) r (inside b) plan in
-      rw (c .before .before .some-touched .ensures, c .before .without-resource .ensures, d .step .ensures .1 ok)
-      (step-noted (qs b) (ts b) us (b .pre .0 .2) k (b .args .p .mask) (b .args .p .changed) r plan (b .pre .1 .0)),
+          let plan : atLeastStep r (limitOn (getD (qs b) r noResource)) (ts b) ≡ Plan us = sym o ∙ ap (λ (x : Bool). outcomeOf x us) ok in
+          let k = step-keeps (qs b) (ts b) us (b .pre .0 .2) r (inside b) plan in
+          rw (c .before .before .some-touched .ensures, c .before .without-resource .ensures, d .step .ensures .1 ok)
+          (step-noted (qs b) (ts b) us (b .pre .0 .2) k (b .args .p .mask) (b .args .p .changed) r plan (b .pre .1 .0)),
     )
 
 returns-2 : tie.Need-returns-2
 returns-2 c =
     let b = c .before .before .before .before in
-    let clear : has (b .args .p .mask) (b .args .r) ≡ false = sym (c .before .has-resource .ensures) ∙ c .if1 .left in
-    (
+    let clear : has (b .args .p .mask) (b .args .r) ≡ false = sym (c .before .has-resource .ensures) ∙ c .if1 .left in (
       rw (b .pre .0 .1) (sym (b .pre .1 .0 (b .args .r) (inside b) clear)),
       λ ok. unchanged-noted (qs b) (ts b) (b .args .p .mask) (b .args .p .changed) (b .pre .1 .0),
     )

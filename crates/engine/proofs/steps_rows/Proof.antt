@@ -44,12 +44,15 @@ abbrev μ-loop : tie.MeasureT-loop
 loop-holds : tie.Need-loop-holds Inv-loop μ-loop
 loop-holds c =
     let b = c .before .before in
-    let a = b .args in
-    (
-      omega arith, refl, refl, refl, refl,
+    let a = b .args in (
+      omega arith,
+      refl,
+      refl,
+      refl,
+      refl,
       subst (λ (x : Bool). Passing (facing (a .sense) (a .q .now)) (tasksOf (a .s .now)) (a .first .changed) 0 x (a .first .changed) (a .first .mask) (tasksOf (a .s .now)))
-      (sym (b .pre .0 .0))
-      (passing-start (facing (a .sense) (a .q .now)) (tasksOf (a .s .now)) (b .pre .0 .1) (a .first .changed) (a .first .mask) (b .pre .1 .0)),
+          (sym (b .pre .0 .0))
+          (passing-start (facing (a .sense) (a .q .now)) (tasksOf (a .s .now)) (b .pre .0 .1) (a .first .changed) (a .first .mask) (b .pre .1 .0)),
     )
 
 -- src/lib.rt:142:13
@@ -74,8 +77,7 @@ returns c =
     let l = c .before .before .before in
     let b = l .before .before .before in
     let a = b .args in
-    let no : l .loop .p .ok ≡ false = not-true (l .loop .p .ok) (c .if1 .taken) in
-    (
+    let no : l .loop .p .ok ≡ false = not-true (l .loop .p .ok) (c .if1 .taken) in (
       passing-none (facing (a .sense) (a .q .now)) (tasksOf (a .s .now)) (b .pre .0 .1) (a .first .changed) (l .loop .r) (l .loop .p .ok) (l .loop .p .changed) (l .loop .p .mask) (tasksOf (l .loop .s)) no (l .loop .inv .5),
       λ h. clash (l .loop .p .ok) h no,
     )
@@ -86,8 +88,7 @@ step-due-requires c κs =
     let l = c .before .before .before .before .before .before .before in
     let b = l .before .before .before in
     let ok = is-true (l .loop .p .ok) (c .before .before .before .before .if1 .left) in
-    let g = l .loop .inv .5 .going ok in
-    (
+    let g = l .loop .inv .5 .going ok in (
       (omega arith, ok, g .keeps .accepted),
       (
         g .noted .idle,
@@ -114,11 +115,14 @@ loop-again c =
     let p = l .loop .p in
     let ok = is-true (p .ok) (c .before .before .before .before .before .before .before .before .before .before .before .if1 .left) in
     let t = c .before .before .before .before .before .before .before .before .before .before .before .before .before .loop-test in
-    let inside : l .loop .r < length qs = omega (arith, same-count (a .sense) (a .q .now), t) in
-    (
-      omega (arith, t), omega arith, omega arith, omega arith, omega arith,
+    let inside : l .loop .r < length qs = omega (arith, same-count (a .sense) (a .q .now), t) in (
+      omega (arith, t),
+      omega arith,
+      omega arith,
+      omega arith,
+      omega arith,
       passing-more qs (tasksOf (a .s .now)) (b .pre .0 .1) (a .first .changed) (l .loop .r) (p .ok) (p .changed) (p .mask) (tasksOf (l .loop .s)) inside ok (l .loop .inv .5)
-      (d .step-due .result .ok) (d .step-due .result .changed) (d .step-due .result .mask) (tasksOf (d .step-due .last .1 .1 .0)) (d .step-due .ensures .0) (d .step-due .ensures .1),
+          (d .step-due .result .ok) (d .step-due .result .changed) (d .step-due .result .mask) (tasksOf (d .step-due .last .1 .1 .0)) (d .step-due .ensures .0) (d .step-due .ensures .1),
     )
 
 -- src/lib.rt:123:1
@@ -142,10 +146,9 @@ returns-2 : tie.Need-returns-2 Inv-loop μ-loop
 returns-2 c =
     let l = c .before in
     let b = l .before .before .before in
-    let a = b .args in
-    (
+    let a = b .args in (
       passing-end (facing (a .sense) (a .q .now)) (tasksOf (a .s .now)) (b .pre .0 .1) (a .first .changed) (l .loop .r) (l .loop .p .ok) (l .loop .p .changed) (l .loop .p .mask) (tasksOf (l .loop .s))
-      (omega (arith, same-count (a .sense) (a .q .now))) (l .loop .inv .5),
+          (omega (arith, same-count (a .sense) (a .q .now))) (l .loop .inv .5),
       λ h. l .loop .inv .5 .going h .noted,
     )
 

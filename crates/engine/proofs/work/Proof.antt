@@ -59,8 +59,7 @@ step-due-requires c κs =
     let b = c .before .before .before .before .before .before .before .before .before .before in
     let p = c .before .before .before .before .before .before .c .given .0 .0 in
     let all = c .before .before .before .all-due .ensures in
-    let h : ltb p (length (b .args .q .now)) ≡ true = ap (placedIn (length (b .args .q .now))) (sym (c .before .before .before .before .before .before .c .given .1)) ∙ b .pre .0 .1 in
-    (
+    let h : ltb p (length (b .args .q .now)) ≡ true = ap (placedIn (length (b .args .q .now))) (sym (c .before .before .before .before .before .before .c .given .1)) ∙ b .pre .0 .1 in (
       (ltb-true p (length (b .args .q .now)) h, all .0, b .pre .0 .0),
       (subst (λ (m : ℕ). Idle m (qs b) (ts b)) (sym (all .1)) (all-idle (qs b) (ts b) (b .pre .0 .0)), b .pre .1),
     )

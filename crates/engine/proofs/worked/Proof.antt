@@ -114,8 +114,8 @@ returns-2 c =
     let b = w .before .before .before .before .before .before .before .before .before .before in
     let n = c .before .before .before .before .n .given in
     sym (
-      back w ∙ ap (λ (x : Settling). resultBack (b .args .sense) (ts b) (settledOf x (us w))) (n .1)
-      ∙ ap (done (n .0 .0)) (sym (c .before .turn-rows2 .ensures))
+    back w ∙ ap (λ (x : Settling). resultBack (b .args .sense) (ts b) (settledOf x (us w))) (n .1)
+    ∙ ap (done (n .0 .0)) (sym (c .before .turn-rows2 .ensures))
     )
 
 pub worked-spec : {M : Type 1} → statement M

@@ -55,8 +55,8 @@ narrow-requires c κs =
 
 -- what the page makes of the next task
 narrowed-next : (c : tie.After-narrow Inv-loop μ-loop) (limit : ℤ → ℤ)
-  → Told (c .before .before .before .before .before .args .r) limit (tasksOf (c .before .before .before .before .before .args .s .now)) (stretchesOf (c .before .before .before .before .before .args .ss .now))
-  → narrowed (c .before .before .before .before .before .args .r) limit (tasksOf (c .before .before .before .before .before .args .s .now)) (listedDays (tasksOf (c .before .before .before .before .before .args .s .now))) (getD (tasksOf (c .before .before .before .before .loop .s)) (c .before .before .before .before .loop .i) noTask) ≡ c .narrow .result
+    → Told (c .before .before .before .before .before .args .r) limit (tasksOf (c .before .before .before .before .before .args .s .now)) (stretchesOf (c .before .before .before .before .before .args .ss .now))
+    → narrowed (c .before .before .before .before .before .args .r) limit (tasksOf (c .before .before .before .before .before .args .s .now)) (listedDays (tasksOf (c .before .before .before .before .before .args .s .now))) (getD (tasksOf (c .before .before .before .before .loop .s)) (c .before .before .before .before .loop .i) noTask) ≡ c .narrow .result
 narrowed-next c limit told =
     let l = c .before .before .before .before in
     let b = l .before in
@@ -85,13 +85,12 @@ returns c =
     let ts = tasksOf (b .args .s .now) in
     let us = tasksOf (l .loop .s) in
     let h : l .loop .i < length us = omega (arith, length-tasks (l .loop .s)) in
-    let v = c .enum-told .given in
-    (
+    let v = c .enum-told .given in (
       λ limit told.
-      sym (
-        sym (l .loop .inv .3 limit told)
-        ∙ each-out (narrowed (b .args .r) limit ts (listedDays ts)) noTask (v .0 .0) (l .loop .i) us h (narrowed-next (c .before .before) limit told ∙ v .1)
-      ),
+          sym (
+          sym (l .loop .inv .3 limit told)
+          ∙ each-out (narrowed (b .args .r) limit ts (listedDays ts)) noTask (v .0 .0) (l .loop .i) us h (narrowed-next (c .before .before) limit told ∙ v .1)
+          ),
       λ h. clash false h refl,
     )
 
@@ -109,15 +108,14 @@ loop-again c =
     let us = tasksOf (l .loop .s) in
     let h : l .loop .i < length us = omega (arith, length-tasks (l .loop .s)) in
     let u = c .before .before .before .before .u .given in
-    let p = c .before .put-changed .ensures in
-    (
+    let p = c .before .put-changed .ensures in (
       omega arith,
       omega arith,
       rw (p .0, p .1) (begun-more ts (l .loop .i) us (l .loop .touched) (u .0 .0) h (l .loop .inv .2)),
       λ limit told.
-      rw (p .0)
-      (each-kept (narrowed (b .args .r) limit ts (listedDays ts)) noTask (u .0 .0) (l .loop .i) us h (narrowed-next (c .before .before .before .before .before .before) limit told ∙ u .1)
-      ∙ l .loop .inv .3 limit told),
+          rw (p .0)
+          (each-kept (narrowed (b .args .r) limit ts (listedDays ts)) noTask (u .0 .0) (l .loop .i) us h (narrowed-next (c .before .before .before .before .before .before) limit told ∙ u .1)
+          ∙ l .loop .inv .3 limit told),
     )
 
 same-length-2 : tie.Need-same-length-2 Inv-loop μ-loop
@@ -128,10 +126,9 @@ returns-2 c =
     let l = c .before in
     let b = l .before in
     let ts = tasksOf (b .args .s .now) in
-    let us = tasksOf (l .loop .s) in
-    (
+    let us = tasksOf (l .loop .s) in (
       λ limit told.
-      sym (sym (l .loop .inv .3 limit told) ∙ each-end (narrowed (b .args .r) limit ts (listedDays ts)) (l .loop .i) us (omega (arith, length-tasks (l .loop .s)))),
+          sym (sym (l .loop .inv .3 limit told) ∙ each-end (narrowed (b .args .r) limit ts (listedDays ts)) (l .loop .i) us (omega (arith, length-tasks (l .loop .s)))),
       λ h. l .loop .inv .2 .noted,
     )
 

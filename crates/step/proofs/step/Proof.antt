@@ -29,8 +29,7 @@ profile-requires : tie.Need-profile-requires
 profile-requires c κs =
     let b = c .before .before .before .before .before .before in
     let a = b .args in
-    let l = limit-out (a .limit) (b .pre .0 .limited) in
-    (
+    let l = limit-out (a .limit) (b .pre .0 .limited) in (
       record {
         tasks-few = omega (arith, b .pre .0 .few, length-tasks (a .s .now));
         place = b .pre .0 .place;
@@ -58,9 +57,8 @@ same-length-4 c = search needs
 returns : tie.Need-returns
 returns c =
     let d = c .before .before .before .before .before .before in
-    let b = c .before .before .before .before .before .before .before .before .before .before .before .before .before in
-    (
-      sym (step-short (b .args .r) (λ i. b .args .limit .0) (tasksOf (b .args .s .now)) (sym (d .profile .ensures .1 .shortfall) ∙ c .if1 .taken)),
+    let b = c .before .before .before .before .before .before .before .before .before .before .before .before .before in (
+      sym (step-short (b .args .r) (λ i. b .args .limit .0) (tasksOf (b .args .s .now)) (sym (d .profile .ensures .1 .short-is) ∙ c .if1 .taken)),
       λ h. clash false h refl,
     )
 
@@ -95,9 +93,9 @@ returns-2 c =
     let n = d .profile .result .stretches in
     let ss = d .profile .last .1 .1 .1 .1 .1 .0 in
     let q = d .profile .ensures .1 in
-    let enough : any (shortfall r limit ts) (listedDays ts) ≡ false = sym (q .shortfall) ∙ c .before .before .before .before .if1 .left in
+    let enough : any (shortfall r limit ts) (listedDays ts) ≡ false = sym (q .short-is) ∙ c .before .before .before .before .if1 .left in
     let told : Told r limit ts (stretchesOf (take n ss)) =
-      record { tells = λ k l. subst (Tells r limit ts (getD ts k noTask)) (sym (stretches-take n ss)) (q .tells k l); enough = enough } in
+    record { tells = λ k l. subst (Tells r limit ts (getD ts k noTask)) (sym (stretches-take n ss)) (q .tells k l); enough = enough } in
     (c .before .narrow-all .ensures .0 limit told ∙ sym (step-enough r limit ts enough), c .before .narrow-all .ensures .1)
 
 pub step-spec : {M : Type 1} → statement M
