@@ -1,7 +1,7 @@
 // Measures settling by the engine and by Gecode on the same plans in one run, turn about, and prints one line a plan.
 //
 //   measure all SEED SECONDS            every plan of every size; SECONDS is the time for all
-//   measure ours SEED SIZE NUMBER       one plan, once, inside the function `measured_ours` (for counting instructions)
+//   measure ours SEED SIZE NUMBER       one plan, inside the function `measured_ours` (for counting instructions)
 //   measure gecode SEED SIZE NUMBER     the same, inside `measured_gecode`
 #include "../include/gristwaltz.h"
 #ifdef WITH_GECODE
@@ -135,8 +135,10 @@ int main(int count, char **words) {
     Plan plan = plan_of(std::atoi(words[3]), std::strtoull(words[2], nullptr, 10), std::atoi(words[4]));
     Ours ours(plan);
     std::vector<Task> narrowed = plan.tasks;
-    if (what == "ours") measured_ours(ours.file, ours.out);
-    else measured_gecode(plan, narrowed);
+    // once before, so that what a program does once only (finding library functions, first memory) is not counted
+    Line before;
+    if (what == "ours") ours.settle(), measured_ours(ours.file, ours.out);
+    else gecode_turn(plan, narrowed, before), measured_gecode(plan, narrowed);
     return 0;
   }
   std::fprintf(stderr, "usage: measure all SEED SECONDS | measure ours|gecode SEED SIZE NUMBER\n");

@@ -127,6 +127,35 @@ def kind_table(plans):
     return text
 
 
+# Table 2's characteristics: how many ways each has, in the order in which bench/plans.cpp counts them, and their names.
+WAYS = (
+    ("tasks", ("nearly fixed", "nearly free")),
+    ("machine", ("single", "full set", "subset", "fixed, several")),
+    ("consumption", ("fixed", "variable", "positive or negative")),
+    ("duration", ("fixed small", "fixed small or large", "variable small", "variable small or large")),
+    ("origin", ("full", "random earliest start", "fixed")),
+)
+
+
+def ways_of(plan):
+    """Which way of each characteristic a plan of Table 2 has."""
+    number, ways = int(plan.number) // 2, {}
+    for name, kinds in WAYS:
+        number, ways[name] = divmod(number, len(kinds))
+    return ways
+
+
+def pattern_table(plans):
+    widths = (14, 28, 10, 10, 10, 10)
+    text = row(("", "tasks:", *SIZES), widths)
+    table = [(plan, ways_of(plan)) for plan in plans if plan.kind == "table"]
+    for name, kinds in WAYS:
+        for way, kind in enumerate(kinds):
+            groups = [[plan for plan, ways in table if plan.size == size and ways[name] == way] for size in SIZES]
+            text += row((name, kind, *(f"{part(ratios(group, 'gecode'), 0.5):.3f}" for group in groups)), widths)
+    return text
+
+
 def time_table(plans, sides):
     widths = (8, 34, 12, 12, 12)
     text = row(("tasks", "microseconds", "median", "90 %", "worst"), widths)
@@ -167,7 +196,7 @@ def removed_table(plans):
         text += row((size, len(group), *cells), widths)
     holes = sum(plan.holes for plan in plans if plan.both_settled())
     values = sum(plan.values for plan in plans if plan.both_settled())
-    text += f"of {values:.0f} values. Gecode also took {holes:.0f} values out of the middle of ranges, which this page leaves out.\n"
+    text += f"of {values:.0f} values. Gecode also took {holes:.0f} values out of the middle of ranges, which our ranges cannot say.\n"
     return text
 
 
@@ -223,8 +252,9 @@ def results(plans, instructions, archive, seed):
     text += heading("Times") + time_table(plans, sides)
     if peers:
         text += heading("By kind of plan (whole job)") + kind_table(plans)
+        text += heading("By the ways of Table 2 (whole job, median)") + pattern_table(plans)
     text += heading("Growth of the median with the tasks") + growth(plans, sides)
-    text += heading("Instructions (callgrind), whole job") + instruction_table(instructions)
+    text += heading("Instructions (callgrind), whole job, second call") + instruction_table(instructions)
     if peers:
         text += heading("Narrowing, by ends of ranges and sets") + removed_table(plans)
         text += heading("No plan found") + no_plan_table(plans)
