@@ -1,7 +1,7 @@
 //! One plan file, every call: the engine's answer and buffers against what the second program says.
 
 use crate::expected::{read, said, Said};
-use crate::library::{self, Call};
+use crate::library::{self, Call, Library};
 use crate::tally::{Kind, Tally};
 use second::random::Random;
 use second::{allowed, words, Fault, Plan};
@@ -21,10 +21,11 @@ pub struct Difference {
     pub text: String,
 }
 
-/// What comparing needs beside the plan: a fault for the second program, counts, and memory used again and again.
+/// What comparing needs beside the plan: a fault for the second program, counts, the engine, and memory used again and again.
 pub struct Bench {
     pub fault: Option<Fault>,
     pub tally: Tally,
+    library: Library,
     memory: Vec<u8>,
     before: Vec<u8>,
 }
@@ -34,6 +35,7 @@ impl Bench {
         Bench {
             fault,
             tally: Tally::default(),
+            library: Library::open(),
             memory: Vec::new(),
             before: Vec::new(),
         }
@@ -116,7 +118,7 @@ impl Bench {
         said: &Said,
     ) -> Result<(), Difference> {
         self.fill(room + 2 * MARGIN);
-        let answer = library::call(call, file, &mut self.memory[MARGIN..MARGIN + room]);
+        let answer = self.library.call(call, file, &mut self.memory, MARGIN);
         if let Some(written) = &said.written {
             self.before[MARGIN..MARGIN + written.len()].copy_from_slice(written);
         }
@@ -184,7 +186,7 @@ impl Bench {
                 _ => Call::Step(random.place(plan.resources.len())),
             };
             let mut next = vec![0; now.len()];
-            let answer = library::call(step, &now, &mut next);
+            let answer = self.library.call(step, &now, &mut next, 0);
             let none_left = answer == library::refusal(7, 0);
             let left = match (none_left, read(&next)) {
                 (true, _) => 0,

@@ -17,7 +17,7 @@ use std::time::{Duration, Instant, SystemTime, UNIX_EPOCH};
 use tally::Tally;
 
 /// Where the plan of a difference is kept, from the folder in which the program is run.
-const SAVED: &str = "target/bulk-difference.plan";
+const SAVED: &str = "target/bulk/difference.plan";
 
 fn main() -> ExitCode {
     let arguments: Vec<String> = std::env::args().skip(1).collect();
