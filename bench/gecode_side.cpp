@@ -4,7 +4,6 @@
 #include <gecode/int.hh>
 
 #include <chrono>
-#include <memory>
 
 namespace bench {
 namespace {
@@ -117,19 +116,18 @@ double since(std::chrono::steady_clock::time_point start) {
 
 }  // namespace
 
-GecodeTimes gecode_run(const Plan &plan, std::vector<Task> &narrowed) {
-  GecodeTimes times{};
+void gecode_job(const Plan &plan, std::vector<Task> &narrowed) {
+  PlanSpace space(plan);
+  if (space.status() != Gecode::SS_FAILED) space.read(narrowed);
+}
+
+GecodeTimes gecode_parts(const Plan &plan) {
   auto start = std::chrono::steady_clock::now();
-  auto space = std::make_unique<PlanSpace>(plan);
-  times.setup = since(start);
+  PlanSpace space(plan);
+  double setup = since(start);
   start = std::chrono::steady_clock::now();
-  bool failed = space->status() == Gecode::SS_FAILED;
-  times.propagation = since(start);
-  start = std::chrono::steady_clock::now();
-  if (!failed) space->read(narrowed);
-  space.reset();
-  times.rest = since(start);
-  return times;
+  space.status();
+  return {setup, since(start)};
 }
 
 GecodeLeft gecode_left(const Plan &plan) {

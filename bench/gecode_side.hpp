@@ -11,16 +11,17 @@ struct GecodeLeft {
   long holes;
 };
 
-// Nanoseconds of one run, in three parts: variables and posting; propagation to the fixpoint; reading the ends back and releasing the space.
+// The whole job, from a plan in memory to the narrowed tasks in memory: variables and posting, propagation to the fixpoint, reading the
+// ends back, releasing the space.
+void gecode_job(const Plan &plan, std::vector<Task> &narrowed);
+
+// Nanoseconds of its first two parts.
 struct GecodeTimes {
-  double setup, propagation, rest;
-  double whole() const { return setup + propagation + rest; }
+  double setup, propagation;
 };
+GecodeTimes gecode_parts(const Plan &plan);
 
-// From a plan in memory to the narrowed tasks in memory, timed.
-GecodeTimes gecode_run(const Plan &plan, std::vector<Task> &narrowed);
-
-// The same for its result alone.
+// Its result.
 GecodeLeft gecode_left(const Plan &plan);
 
 }  // namespace bench

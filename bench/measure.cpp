@@ -43,24 +43,38 @@ struct Line {
   int gecode_no_plan = -1, turns = 0;
 };
 
+// Nanoseconds of one run of a job, after one run that is not timed: neither side pays for what the other left in the caches. A short job is
+// repeated inside one timing, so often as the first timing says.
+template <class Job>
+class Timed {
+ public:
+  explicit Timed(Job job) : job_(job), inside_(1) {
+    inside_ = std::clamp(static_cast<int>(shortest_timing / std::max(1.0, time())), 1, 1000);
+  }
+  double time() {
+    job_();
+    auto start = Clock::now();
+    for (int k = 0; k < inside_; k++) job_();
+    return since(start) / inside_;
+  }
+
+ private:
+  Job job_;
+  int inside_;
+};
+
 struct Ours {
   std::vector<std::uint8_t> file, out;
-  int inside = 1;  // calls in one timing
   explicit Ours(const Plan &plan) : file(file_of(plan)), out(file.size()) {}
   std::uint64_t settle() { return gristwaltz_settle(file.data(), file.size(), out.data(), out.size()); }
-  double time() {
-    auto start = Clock::now();
-    for (int k = 0; k < inside; k++) settle();
-    return since(start) / inside;
-  }
 };
 
 void best(double &so_far, double now) { so_far = so_far < 0 ? now : std::min(so_far, now); }
 
 #ifdef WITH_GECODE
-void gecode_turn(const Plan &plan, std::vector<Task> &narrowed, Line &line) {
-  GecodeTimes times = gecode_run(plan, narrowed);
-  best(line.gecode, times.whole());
+void gecode_whole(const Plan &plan, std::vector<Task> &narrowed) { gecode_job(plan, narrowed); }
+void gecode_in_parts(const Plan &plan, Line &line) {
+  GecodeTimes times = gecode_parts(plan);
   best(line.posted, times.setup + times.propagation);
   best(line.propagation, times.propagation);
 }
@@ -71,26 +85,30 @@ void gecode_result(const Plan &plan, Line &line) {
   line.gecode_removed = values(plan.tasks) - values(left.tasks);
   line.holes = left.holes;
 }
+constexpr bool with_gecode = true;
 #else
-void gecode_turn(const Plan &, std::vector<Task> &, Line &) {}
+void gecode_whole(const Plan &, std::vector<Task> &) {}
+void gecode_in_parts(const Plan &, Line &) {}
 void gecode_result(const Plan &, Line &) {}
+constexpr bool with_gecode = false;
 #endif
 
 Line measured(const Plan &plan, double budget) {
   Line line;
   Ours ours(plan);
+  std::vector<Task> narrowed = plan.tasks;
   auto start = Clock::now();
   line.answer = ours.settle();
-  ours.inside = std::clamp(static_cast<int>(shortest_timing / std::max(1.0, ours.time())), 1, 1000);
   if (gristwaltz_refusal(line.answer) == 0) line.ours_removed = values(plan.tasks) - values(tasks_of(ours.out));
   gecode_result(plan, line);
-  std::vector<Task> narrowed = plan.tasks;
+  Timed settling([&ours] { ours.settle(); });
+  Timed gecode([&plan, &narrowed] { gecode_whole(plan, narrowed); });
   while (line.turns < least_turns || (line.turns < most_turns && since(start) < budget)) {
-    bool first = line.turns % 2 == 0;
-    if (first) best(line.ours, ours.time());
-    gecode_turn(plan, narrowed, line);
-    if (!first) best(line.ours, ours.time());
-    line.turns++;
+    bool first = line.turns++ % 2 == 0;
+    if (first) best(line.ours, settling.time());
+    if (with_gecode) best(line.gecode, gecode.time());
+    gecode_in_parts(plan, line);
+    if (!first) best(line.ours, settling.time());
   }
   return line;
 }
@@ -121,8 +139,7 @@ extern "C" __attribute__((noinline)) std::uint64_t measured_ours(const std::vect
 }
 
 extern "C" __attribute__((noinline)) void measured_gecode(const Plan &plan, std::vector<Task> &narrowed) {
-  Line line;
-  gecode_turn(plan, narrowed, line);
+  gecode_whole(plan, narrowed);
 }
 
 int main(int count, char **words) {
@@ -136,9 +153,8 @@ int main(int count, char **words) {
     Ours ours(plan);
     std::vector<Task> narrowed = plan.tasks;
     // once before, so that what a program does once only (finding library functions, first memory) is not counted
-    Line before;
     if (what == "ours") ours.settle(), measured_ours(ours.file, ours.out);
-    else gecode_turn(plan, narrowed, before), measured_gecode(plan, narrowed);
+    else gecode_whole(plan, narrowed), measured_gecode(plan, narrowed);
     return 0;
   }
   std::fprintf(stderr, "usage: measure all SEED SECONDS | measure ours|gecode SEED SIZE NUMBER\n");

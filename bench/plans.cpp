@@ -2,7 +2,6 @@
 #include "plans.hpp"
 
 #include <algorithm>
-#include <functional>
 
 namespace bench {
 namespace {

@@ -85,6 +85,8 @@ def head(archive, seed, peers, plans):
     text = "Settling: the engine's static library" + (" and Gecode 6.2's cumulatives\n" if peers else ", alone (Gecode is not here)\n")
     text += f"machine   {platform.machine()}, {processor()}\n"
     text += f"archive   {shown} (sha256 {digest})\n"
+    if "target/native" in shown:
+        text += "          the engine's module in this machine's code; the archive that is handed out is for x86-64\n"
     text += f"compiler  {said_by(['g++', '--version'])}\n"
     text += f"plans     seed {seed}, {len(plans) // len(SIZES)} of each size: Table 2's 576 patterns and 300 service plans\n"
     text += f"turns     {min(plan.turns for plan in plans):.0f} to {max(plan.turns for plan in plans):.0f} a plan, each side's best is taken\n"
@@ -95,7 +97,8 @@ Ours is one call of gristwaltz_settle: the plan file in memory is read and check
         text += """Gecode's whole job goes from the plan in memory (no file) to the narrowed tasks in memory: variables and posting (one cumulatives,
 and origin + duration = end for each task), status() to the fixpoint, reading the ends back, releasing the space. Where all
 machines, durations or heights of a plan are single values, Gecode is given numbers for them, which is its faster form. Its time
-without the reading back and the release, and its propagation alone, stand beside it. Both sides take turns on each plan.
+without the reading back and the release, and its propagation alone, stand beside it. Both sides take turns on each plan, and each
+timing follows a run of the same side that is not timed.
 """
     return text
 
@@ -297,10 +300,28 @@ def log_scale(low, high, start, end):
     return lambda value: start + (math.log(value) - math.log(low)) / (math.log(high) - math.log(low)) * (end - start)
 
 
+def hill(picture, across, sides, base, pitch, values):
+    """The hill of one size, with its median, nine tenths and worst."""
+    left, right = sides
+    bins = 46
+    counts = [0] * bins
+    for value in values:
+        counts[min(bins - 1, int((across(value) - left) / (right - left) * bins))] += 1
+    tall = (pitch - 26) / max(counts)
+    points = [(left + (k + 0.5) * (right - left) / bins, base - tall * count) for k, count in enumerate(counts)]
+    picture.path([(left, base), *points, (right, base)], fill=OURS, opacity=0.28, closed=True)
+    picture.line(left, base, right, base, GREY)
+    median, ninety, worst = spread(values)
+    picture.line(across(median), base - pitch + 24, across(median), base, OURS, 2)
+    picture.text(across(median) - 5, base - pitch + 34, f"{median:.2f}", "end", 12, OURS, "bold")
+    picture.line(across(ninety), base - 16, across(ninety), base, OURS, 1.5)
+    picture.dot(across(worst), base, 3.5, OURS)
+
+
 def hills(picture, plans):
     """One hill a size: how many plans have which ratio."""
     left, right, top, bottom = 90, 560, 96, 420
-    low, high, bins = 0.02, 2.0, 46
+    low, high = 0.02, 2.0
     across = log_scale(low, high, left, right)
     picture.text(left, 40, "Time of settling: ours / Gecode's whole job", size=16, weight="bold")
     picture.text(left, 60, "how many plans have which ratio; to the left is faster", colour="#5a646e")
@@ -315,20 +336,7 @@ def hills(picture, plans):
     for place, size in enumerate(SIZES):
         base = top + pitch * (place + 1) - 8
         values = [min(max(value, low), high) for value in ratios([plan for plan in plans if plan.size == size], "gecode")]
-        counts = [0] * bins
-        for value in values:
-            counts[min(bins - 1, int((across(value) - left) / (right - left) * bins))] += 1
-        tall = (pitch - 26) / max(counts)
-        points = [(left, base)]
-        points += [(left + (k + 0.5) * (right - left) / bins, base - tall * count) for k, count in enumerate(counts)]
-        points += [(right, base)]
-        picture.path(points, fill=OURS, opacity=0.28, closed=True)
-        picture.line(left, base, right, base, GREY)
-        median, ninety, worst = spread(values)
-        picture.line(across(median), base - pitch + 24, across(median), base, OURS, 2)
-        picture.text(across(median) - 5, base - pitch + 34, f"{median:.2f}", "end", 12, OURS, "bold")
-        picture.line(across(ninety), base - 16, across(ninety), base, OURS, 1.5)
-        picture.dot(across(worst), base, 3.5, OURS)
+        hill(picture, across, (left, right), base, pitch, values)
         picture.text(left - 12, base - 4, f"{size}", "end", 15, weight="bold")
     picture.text(left - 12, top - 6, "tasks", "end", 12, "#5a646e")
     picture.text(left, bottom + 44, "long line: median; short line: nine in ten lie left of it; dot: worst plan", size=12, colour="#5a646e")
