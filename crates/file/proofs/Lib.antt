@@ -1,0 +1,3 @@
+-- Laws of the plan file.
+pub mod Numbers
+pub mod Records

@@ -1,0 +1,46 @@
+-- What is written: "One PL, all RS, all TK, nothing more"; and what the writing call answers and leaves.
+use mathlib.Core.List.{List, [], _∷_, _++_, map}
+use Prim.Native.Nat.{ℕ}
+use lib.Dec.{ltb}
+use lib.ListN.{length, drop}
+use Rattle.plan.specs.declared.Task.{Task}
+use Rattle.plan.specs.declared.Resource.{Resource}
+use Rattle.plan.specs.declared.Sense.{Sense}
+use Rattle.plan.specs.declared.Refusal.the-variants.{BufferShort}
+use Rattle.rules.specs.Calls.{Checked, orElse, refuseIf, check}
+use Rattle.file.specs.declared.Mark.{Mark}
+use Rattle.file.specs.declared.Mark.the-variants.{PL, RS, TK}
+use Rattle.file.specs.declared.WriteAnswer.{WriteAnswer}
+use Rattle.file.specs.declared.WriteAnswer.the-variants.{Written, Refused}
+use Rattle.file.specs.Format.{recordBytes, headerNumbers, resourceNumbers, taskNumbers, senseNumber}
+
+-- records of one mark, one after another
+unfoldable pub recordsBytes : Mark → List (List ℕ) → List ℕ
+recordsBytes k [] = []
+recordsBytes k (ns ∷ nss) = recordBytes k ns ++ recordsBytes k nss
+
+-- the bytes of a plan
+unfoldable pub written : Sense → List Resource → List Task → List ℕ
+written sense qs ts =
+    recordBytes PL (headerNumbers (record { sense = senseNumber sense; resources = length qs; tasks = length ts }))
+    ++ recordsBytes RS (map resourceNumbers qs)
+    ++ recordsBytes TK (map taskNumbers ts)
+
+-- the first places hold xs, later ones stay
+abbrev pub laid {ℓ} : {A : Type ℓ} → List A → List A → List A
+laid xs ds = xs ++ drop (length xs) ds
+
+-- the writing call's answer, and the buffer's later contents
+pub record WriteResult : Type 0 where
+  pub answer : WriteAnswer
+  pub buffer : List ℕ
+
+abbrev pub writtenUnless : Checked → List ℕ → List ℕ → WriteResult
+writtenUnless Checked.Accepted file out = record { answer = Written (length file); buffer = laid file out }
+writtenUnless (Checked.Refuse f) file out = record { answer = Refused f; buffer = out }
+
+-- 1 to 6, then 10: "output buffer shorter than the file"; "the writer writes exactly the file's length"
+unfoldable pub writeCall : Sense → List Resource → List Task → List ℕ → WriteResult
+writeCall sense qs ts out =
+    let file = written sense qs ts in
+    writtenUnless (orElse (check qs ts) (refuseIf (ltb (length out) (length file)) BufferShort)) file out
