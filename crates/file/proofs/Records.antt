@@ -4,7 +4,7 @@ use mathlib.Core.Bool.{Bool, true, false, not}
 use mathlib.Core.List.{List, [], _∷_, _++_, append-assoc, append-nil}
 use Prim.Native.Nat.{ℕ, zero, suc, _+_, _-_, _*_, _≤_, _<_, min}
 use native.Mathlib.Omega.{arith}
-use native.Mathlib.Nat.{not-suc-le-zero, le-of-suc-le-suc}
+use native.Mathlib.Nat.{not-suc-le-zero, le-of-suc-le-suc, suc-mul, zero-mul, add-comm}
 use lib.Dec.{eqb, ltb}
 use lib.ListN.{length, getD, take, drop, length-append, length-take, length-drop, take-append-drop}
 use lib.Seq.{length-take-le, take-at, drop-at, take-add, drop-drop}
@@ -155,3 +155,71 @@ module _ (k : Mark) (at : ℕ) (bs : List ℕ) (h : due k at bs ≡ Checked.Acce
   unfolding recordBytes numbersIn
   record-numbers a =
       rw (← mark-taken, bytes-fields (widths k) (drop 2 bs) (omega (arith, length-drop 2 bs, due-length)) (bytes-drop 2 bs a), take-add 2 (total (widths k)) bs)
+
+-- ---- records of one mark, one after another
+pub data Each {A : Type 0} (P : A → Type 0) : List A → Type 0 where
+  nothing : Each P []
+  also : {x : A} {xs : List A} → P x → Each P xs → Each P (x ∷ xs)
+
+module _ (k : Mark) where
+  pub length-records : {nss : List (List ℕ)} → Each (Held (widths k)) nss → length (recordsBytes k nss) ≡ length nss * size k
+  unfolding recordsBytes
+  length-records nothing = omega arith
+  length-records (also {x = ns} {xs = nss} h r) =
+      length-append (recordBytes k ns) (recordsBytes k nss)
+      ∙ ap (λ (n : ℕ). n + length (recordsBytes k nss)) (length-record k h)
+      ∙ ap (λ (n : ℕ). size k + n) (length-records r)
+      ∙ one-more (length nss)
+    where
+      one-more : (n : ℕ) → size k + n * size k ≡ suc n * size k
+      one-more n = sym (suc-mul n (size k) ∙ add-comm (n * size k) (size k))
+
+  pub due-records : {nss : List (List ℕ)} → Each (Held (widths k)) nss → (at : ℕ) (rest : List ℕ) → eachDue k (length nss) at (recordsBytes k nss ++ rest) ≡ Checked.Accepted
+  unfolding recordsBytes eachDue
+  due-records nothing at rest = refl
+  due-records (also {x = ns} {xs = nss} h r) at rest =
+      rw (append-assoc (recordBytes k ns) (recordsBytes k nss) rest,
+        due-record k h at (recordsBytes k nss ++ rest),
+        drop-at (recordBytes k ns) (recordsBytes k nss ++ rest) (size k) (length-record k h))
+      (due-records r (at + size k) rest)
+
+  pub numbers-records : {nss : List (List ℕ)} → Each (Held (widths k)) nss → (rest : List ℕ) → recordsIn k (length nss) (recordsBytes k nss ++ rest) ≡ nss
+  unfolding recordsBytes recordsIn
+  numbers-records nothing rest = refl
+  numbers-records (also {x = ns} {xs = nss} h r) rest =
+      rw (append-assoc (recordBytes k ns) (recordsBytes k nss) rest,
+        numbers-record k h (recordsBytes k nss ++ rest),
+        drop-at (recordBytes k ns) (recordsBytes k nss ++ rest) (size k) (length-record k h),
+        numbers-records r rest)
+
+  pub length-recordsIn : (n : ℕ) (bs : List ℕ) → length (recordsIn k n bs) ≡ n
+  unfolding recordsIn
+  length-recordsIn zero bs = refl
+  length-recordsIn (suc n) bs = ap suc (length-recordsIn n (drop (size k) bs))
+
+  pub due-total : (n at : ℕ) (bs : List ℕ) → eachDue k n at bs ≡ Checked.Accepted → n * size k ≤ length bs
+  unfolding eachDue
+  due-total zero at bs h = omega arith
+  due-total (suc n) at bs h =
+      let rest = eachDue k n (at + size k) (drop (size k) bs) in
+      let own = due-length k at bs (then-first (due k at bs) rest h) in
+      let later = due-total n (at + size k) (drop (size k) bs) (then-second (due k at bs) rest h) in
+      omega (arith, suc-mul n (size k), length-drop (size k) bs)
+
+  pub records-numbers : (n at : ℕ) (bs : List ℕ) → eachDue k n at bs ≡ Checked.Accepted → AllBytes bs ≡ true → recordsBytes k (recordsIn k n bs) ≡ take (n * size k) bs
+  unfolding eachDue recordsIn recordsBytes
+  records-numbers zero at bs h a = rw (zero-mul (size k))
+  records-numbers (suc n) at bs h a =
+      let rest = eachDue k n (at + size k) (drop (size k) bs) in
+      rw (record-numbers k at bs (then-first (due k at bs) rest h) a,
+        records-numbers n (at + size k) (drop (size k) bs) (then-second (due k at bs) rest h) (bytes-drop (size k) bs a),
+        suc-mul n (size k), add-comm (n * size k) (size k), take-add (size k) (n * size k) bs)
+
+  pub records-held : (n at : ℕ) (bs : List ℕ) → eachDue k n at bs ≡ Checked.Accepted → AllBytes bs ≡ true → Each (Held (widths k)) (recordsIn k n bs)
+  unfolding eachDue recordsIn numbersIn
+  records-held zero at bs h a = nothing
+  records-held (suc n) at bs h a =
+      let rest = eachDue k n (at + size k) (drop (size k) bs) in
+      let own = due-length k at bs (then-first (due k at bs) rest h) in
+      also (held-fields (widths k) (drop 2 bs) (omega (arith, length-drop 2 bs)) (bytes-drop 2 bs a))
+      (records-held n (at + size k) (drop (size k) bs) (then-second (due k at bs) rest h) (bytes-drop (size k) bs a))
