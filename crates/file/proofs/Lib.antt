@@ -1,3 +1,6 @@
 -- Laws of the plan file.
 pub mod Numbers
 pub mod Records
+pub mod Passed
+pub mod Files
+pub mod RoundTrip

@@ -57,11 +57,13 @@ pub fields-bytes : {ws ns : List ℕ} → Held ws ns → (rest : List ℕ) → f
 unfolding fieldBytes fieldsIn
 fields-bytes none rest = refl
 fields-bytes (more {w} {n} {ws} {ns} h r) rest =
-    rw (append-assoc (bytesOf w n) (fieldBytes ws ns) rest,
+    rw (
+      append-assoc (bytesOf w n) (fieldBytes ws ns) rest,
       take-at (bytesOf w n) (fieldBytes ws ns ++ rest) w (length-bytes w n),
       drop-at (bytesOf w n) (fieldBytes ws ns ++ rest) w (length-bytes w n),
       number-bytes w n h,
-      fields-bytes r rest)
+      fields-bytes r rest,
+    )
 
 pub held-fields : (ws bs : List ℕ) → total ws ≤ length bs → AllBytes bs ≡ true → Held ws (fieldsIn ws bs)
 unfolding fieldsIn
@@ -76,8 +78,8 @@ unfolding fieldBytes fieldsIn
 bytes-fields [] bs h a = refl
 bytes-fields (w ∷ ws) bs h a =
     let e : bytesOf w (numberOf (take w bs)) ≡ take w bs =
-          subst (λ (k : ℕ). bytesOf k (numberOf (take w bs)) ≡ take w bs) (length-take-le w bs (omega arith))
-          (bytes-number (take w bs) (bytes-take w bs a)) in
+    subst (λ (k : ℕ). bytesOf k (numberOf (take w bs)) ≡ take w bs) (length-take-le w bs (omega arith))
+    (bytes-number (take w bs) (bytes-take w bs a)) in
     rw (e, bytes-fields ws (drop w bs) (omega (arith, length-drop w bs)) (bytes-drop w bs a), take-add w (total ws) bs)
 
 -- ---- one record
@@ -116,9 +118,11 @@ module _ (k : Mark) {ns : List ℕ} (h : Held (widths k) ns) where
   pub numbers-record : (rest : List ℕ) → numbersIn k (recordBytes k ns ++ rest) ≡ ns
   unfolding recordBytes numbersIn
   numbers-record rest =
-      rw (append-assoc (mark k) (fieldBytes (widths k) ns) rest,
+      rw (
+        append-assoc (mark k) (fieldBytes (widths k) ns) rest,
         drop-at (mark k) (fieldBytes (widths k) ns ++ rest) 2 (length-mark k),
-        fields-bytes h rest)
+        fields-bytes h rest,
+      )
 
   pub due-record : (at : ℕ) (rest : List ℕ) → due k at (recordBytes k ns ++ rest) ≡ Checked.Accepted
   unfolding due
@@ -178,19 +182,23 @@ module _ (k : Mark) where
   unfolding recordsBytes eachDue
   due-records nothing at rest = refl
   due-records (also {x = ns} {xs = nss} h r) at rest =
-      rw (append-assoc (recordBytes k ns) (recordsBytes k nss) rest,
+      rw (
+        append-assoc (recordBytes k ns) (recordsBytes k nss) rest,
         due-record k h at (recordsBytes k nss ++ rest),
-        drop-at (recordBytes k ns) (recordsBytes k nss ++ rest) (size k) (length-record k h))
+        drop-at (recordBytes k ns) (recordsBytes k nss ++ rest) (size k) (length-record k h),
+      )
       (due-records r (at + size k) rest)
 
   pub numbers-records : {nss : List (List ℕ)} → Each (Held (widths k)) nss → (rest : List ℕ) → recordsIn k (length nss) (recordsBytes k nss ++ rest) ≡ nss
   unfolding recordsBytes recordsIn
   numbers-records nothing rest = refl
   numbers-records (also {x = ns} {xs = nss} h r) rest =
-      rw (append-assoc (recordBytes k ns) (recordsBytes k nss) rest,
+      rw (
+        append-assoc (recordBytes k ns) (recordsBytes k nss) rest,
         numbers-record k h (recordsBytes k nss ++ rest),
         drop-at (recordBytes k ns) (recordsBytes k nss ++ rest) (size k) (length-record k h),
-        numbers-records r rest)
+        numbers-records r rest,
+      )
 
   pub length-recordsIn : (n : ℕ) (bs : List ℕ) → length (recordsIn k n bs) ≡ n
   unfolding recordsIn
@@ -211,9 +219,13 @@ module _ (k : Mark) where
   records-numbers zero at bs h a = rw (zero-mul (size k))
   records-numbers (suc n) at bs h a =
       let rest = eachDue k n (at + size k) (drop (size k) bs) in
-      rw (record-numbers k at bs (then-first (due k at bs) rest h) a,
+      rw (
+        record-numbers k at bs (then-first (due k at bs) rest h) a,
         records-numbers n (at + size k) (drop (size k) bs) (then-second (due k at bs) rest h) (bytes-drop (size k) bs a),
-        suc-mul n (size k), add-comm (n * size k) (size k), take-add (size k) (n * size k) bs)
+        suc-mul n (size k),
+        add-comm (n * size k) (size k),
+        take-add (size k) (n * size k) bs,
+      )
 
   pub records-held : (n at : ℕ) (bs : List ℕ) → eachDue k n at bs ≡ Checked.Accepted → AllBytes bs ≡ true → Each (Held (widths k)) (recordsIn k n bs)
   unfolding eachDue recordsIn numbersIn

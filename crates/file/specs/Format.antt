@@ -92,7 +92,7 @@ taskFrom ns =
       origin = daysFrom ns 1 2;
       duration = daysFrom ns 3 4;
       end = daysFrom ns 5 6;
-      height = powersFrom ns 7 8
+      height = powersFrom ns 7 8;
     }
 
 -- "A sense for the whole plan: 0 at most, 1 at least"

@@ -23,8 +23,7 @@ recordsBytes k (ns ∷ nss) = recordBytes k ns ++ recordsBytes k nss
 unfoldable pub written : Sense → List Resource → List Task → List ℕ
 written sense qs ts =
     recordBytes PL (headerNumbers (record { sense = senseNumber sense; resources = length qs; tasks = length ts }))
-    ++ recordsBytes RS (map resourceNumbers qs)
-    ++ recordsBytes TK (map taskNumbers ts)
+    ++ (recordsBytes RS (map resourceNumbers qs) ++ recordsBytes TK (map taskNumbers ts))
 
 -- the first places hold xs, later ones stay
 abbrev pub laid {ℓ} : {A : Type ℓ} → List A → List A → List A

@@ -1,0 +1,315 @@
+-- Whole files: a written plan is read back as itself, and a file that is read is the writing of what was read.
+use mathlib.Core.Path.{_≡_, refl, sym, ap, _∙_, subst}
+use mathlib.Core.Bool.{Bool, true, false}
+use mathlib.Core.List.{List, [], _∷_, _++_, map, append-nil}
+use Prim.Native.Nat.{ℕ, zero, suc, _+_, _*_, _≤_, _<_}
+use native.Mathlib.Omega.{arith}
+use lib.Dec.{eqb, ltb}
+use lib.ListN.{length, take, drop, length-append, length-drop, length-map, take-append-drop}
+use lib.Seq.{drop-at, drop-drop, take-all}
+use borrow.Author.Tests.{le-ltb, ne-eqb, ltb-false}
+use Rattle.integers.specs.Tests.{or}
+use Rattle.plan.specs.declared.Task.{Task}
+use Rattle.plan.specs.declared.Resource.{Resource}
+use Rattle.plan.specs.declared.Sense.{Sense}
+use Rattle.plan.specs.declared.Sense.the-variants.{AtMost, AtLeast}
+use Rattle.plan.specs.declared.Refusal.the-variants.{WrongMark, CutShort, TooManyTasks, ResourceCount, ListShort}
+use Rattle.rules.specs.Calls.{Checked, orElse, refuseIf, check, mostTasks, mostResources}
+use Rattle.file.specs.declared.Mark.{Mark}
+use Rattle.file.specs.declared.Mark.the-variants.{PL, RS, TK}
+use Rattle.file.specs.declared.Header.{Header}
+use Rattle.file.specs.Format.{widths, size, recordBytes, fieldsIn, numbersIn, headerNumbers, headerFrom, resourceNumbers, resourceFrom, taskNumbers, taskFrom, senseNumber, senseFrom}
+use Rattle.file.specs.Writing.{recordsBytes, written}
+use Rattle.file.specs.Reading.{due, eachDue, recordsIn, headerIn, tasksFrom, fileEnd, resourcesIn, tasksIn, headerDue, shapeDue, Read, readUnless, readPlan}
+use Rattle.file.proofs.Numbers.{AllBytes, room, bytes-drop}
+use Rattle.file.proofs.Records.{Each, nothing, also, Held, none, more, both, then-first, then-second, unrefused, held-fields, length-record, numbers-record, due-record, due-length, record-numbers, length-records, due-records, numbers-records, length-recordsIn, due-total, records-numbers, records-held}
+use Rattle.file.proofs.Passed.{neither-first, neither-second, Identified, ResourceSmall, TaskSmall, Passed, passed, resource-held, resource-back, task-held, task-back, resource-numbers, task-numbers, resource-identified}
+
+-- ---- a list mapped there and back
+module _ {A B : Type 0} {P : A → Type 0} where
+  each-map : {Q : B → Type 0} (f : A → B) → ((x : A) → P x → Q (f x)) → {xs : List A} → Each P xs → Each Q (map f xs)
+  each-map f g nothing = nothing
+  each-map f g (also {x} h r) = also (g x h) (each-map f g r)
+
+  map-back : (f : A → B) (g : B → A) → ((x : A) → P x → g (f x) ≡ x) → {xs : List A} → Each P xs → map g (map f xs) ≡ xs
+  map-back f g e nothing = refl
+  map-back f g e (also {x} {xs} h r) = rw (e x h, map-back f g e r)
+
+-- ---- a written plan
+unfoldable pub header : Sense → List Resource → List Task → Header
+header sense qs ts = record { sense = senseNumber sense; resources = length qs; tasks = length ts }
+
+module _ (sense : Sense) (qs : List Resource) (ts : List Task) (ids : Each Identified qs) (pass : check qs ts ≡ Checked.Accepted) where
+  abbrev pub h : Header
+  h = header sense qs ts
+
+  first : List ℕ
+  first = recordBytes PL (headerNumbers h)
+
+  resources : List ℕ
+  resources = recordsBytes RS (map resourceNumbers qs)
+
+  tasks : List ℕ
+  tasks = recordsBytes TK (map taskNumbers ts)
+
+  p : Passed qs ts
+  p = passed qs ts pass
+
+  sense-small : (s : Sense) → senseNumber s < 256
+  sense-small AtMost = omega arith
+  sense-small AtLeast = omega arith
+
+  header-held : Held (widths PL) (headerNumbers h)
+  unfolding headerNumbers room header
+  header-held =
+      let r : length qs < room 1 = omega (arith, p .few-resources) in
+      let t : length ts < room 2 = omega (arith, p .few-tasks) in
+      more (sense-small sense) (more r (more t none))
+
+  resources-held : Each (Held (widths RS)) (map resourceNumbers qs)
+  resources-held = each-map resourceNumbers resource-held (p .resources ids)
+
+  tasks-held : Each (Held (widths TK)) (map taskNumbers ts)
+  tasks-held = each-map taskNumbers task-held (p .tasks)
+
+  header-is : headerIn (first ++ (resources ++ tasks)) ≡ h
+  unfolding headerIn first headerFrom headerNumbers
+  header-is = rw (numbers-record PL header-held (resources ++ tasks))
+
+  after-header : drop 6 (first ++ (resources ++ tasks)) ≡ resources ++ tasks
+  unfolding first
+  after-header = drop-at first (resources ++ tasks) 6 (length-record PL header-held)
+
+  length-resources : length resources ≡ length qs * 10
+  unfolding resources
+  length-resources = length-records RS resources-held ∙ ap (λ (n : ℕ). n * 10) (length-map qs resourceNumbers)
+
+  length-tasks : length tasks ≡ length ts * 36
+  unfolding tasks
+  length-tasks = length-records TK tasks-held ∙ ap (λ (n : ℕ). n * 36) (length-map ts taskNumbers)
+
+  after-resources : drop (tasksFrom h) (first ++ (resources ++ tasks)) ≡ tasks
+  unfolding header
+  after-resources =
+      sym (drop-drop (length qs * 10) 6 (first ++ (resources ++ tasks)))
+      ∙ ap (drop (length qs * 10)) after-header
+      ∙ drop-at resources tasks (length qs * 10) length-resources
+
+  whole-length : length (first ++ (resources ++ tasks)) ≡ fileEnd h
+  unfolding first header
+  whole-length =
+      omega (arith, length-append first (resources ++ tasks), length-append resources tasks, length-record PL header-held, length-resources, length-tasks)
+
+  pub length-written : length (written sense qs ts) ≡ fileEnd h
+  unfolding written first resources tasks header
+  length-written = whole-length
+
+  resources-read : resourcesIn h (first ++ (resources ++ tasks)) ≡ qs
+  unfolding resourcesIn resources header
+  resources-read =
+      rw (after-header)
+      (subst (λ (n : ℕ). map resourceFrom (recordsIn RS n (resources ++ tasks)) ≡ qs) (length-map qs resourceNumbers)
+      (rw (numbers-records RS resources-held tasks) (map-back resourceNumbers resourceFrom resource-back (p .resources ids))))
+
+  resources-due : eachDue RS (h .resources) 6 (drop 6 (first ++ (resources ++ tasks))) ≡ Checked.Accepted
+  unfolding resources header
+  resources-due =
+      rw after-header
+      (subst (λ (n : ℕ). eachDue RS n 6 (resources ++ tasks) ≡ Checked.Accepted) (length-map qs resourceNumbers)
+      (due-records RS resources-held 6 tasks))
+
+  tasks-read : tasksIn h (first ++ (resources ++ tasks)) ≡ ts
+  unfolding tasksIn tasks header
+  tasks-read =
+      rw after-resources
+      (subst (λ (l : List ℕ). map taskFrom (recordsIn TK (length ts) l) ≡ ts) (append-nil tasks)
+      (subst (λ (n : ℕ). map taskFrom (recordsIn TK n (tasks ++ [])) ≡ ts) (length-map ts taskNumbers)
+      (rw (numbers-records TK tasks-held []) (map-back taskNumbers taskFrom task-back (p .tasks)))))
+
+  tasks-due : eachDue TK (h .tasks) (tasksFrom h) (drop (tasksFrom h) (first ++ (resources ++ tasks))) ≡ Checked.Accepted
+  unfolding tasks header
+  tasks-due =
+      rw after-resources
+      (subst (λ (l : List ℕ). eachDue TK (length ts) (tasksFrom h) l ≡ Checked.Accepted) (append-nil tasks)
+      (subst (λ (n : ℕ). eachDue TK n (tasksFrom h) (tasks ++ []) ≡ Checked.Accepted) (length-map ts taskNumbers)
+      (due-records TK tasks-held (tasksFrom h) [])))
+
+  header-due : (places space : ℕ) → length qs ≤ places → length ts ≤ space → headerDue places space h ≡ Checked.Accepted
+  unfolding headerDue header
+  header-due places space a b =
+      simp (
+        one-or-none sense,
+        le-ltb mostTasks (length ts) (p .few-tasks),
+        ne-eqb (length qs) 0 (λ e. omega (arith, p .some-resource)),
+        le-ltb mostResources (length qs) (p .few-resources),
+        le-ltb places (length qs) a,
+        le-ltb space (length ts) b,
+      )
+    where
+      one-or-none : (s : Sense) → ltb 1 (senseNumber s) ≡ false
+      one-or-none AtMost = refl
+      one-or-none AtLeast = refl
+
+  sense-back : (s : Sense) → senseFrom (senseNumber s) ≡ s
+  sense-back AtMost = refl
+  sense-back AtLeast = refl
+
+  shape-due : (places space : ℕ) → length qs ≤ places → length ts ≤ space → shapeDue places space h (first ++ (resources ++ tasks)) ≡ Checked.Accepted
+  unfolding shapeDue first
+  shape-due places space a b =
+      let file = first ++ (resources ++ tasks) in
+      simp (pl-due, header-due places space a b, resources-due, tasks-due, le-ltb (fileEnd h) (length file) (omega (arith, whole-length)))
+    where
+      pl-due : due PL 0 (first ++ (resources ++ tasks)) ≡ Checked.Accepted
+      pl-due = due-record PL header-held 0 (resources ++ tasks)
+
+  pub read-back : (places space : ℕ) → length qs ≤ places → length ts ≤ space → readPlan places space (written sense qs ts) ≡ Read.Plan sense qs ts
+  unfolding readPlan written first resources tasks header
+  read-back places space a b = rw (header-is, shape-due places space a b, resources-read, tasks-read, pass) (ap (λ (s : Sense). Read.Plan s qs ts) (sense-back sense))
+
+-- ---- a file that is read
+pub read-accepted : (c : Checked) (x : Read) {sense : Sense} {qs : List Resource} {ts : List Task} → readUnless c x ≡ Read.Plan sense qs ts → c ≡ Checked.Accepted
+read-accepted Checked.Accepted x e = refl
+read-accepted (Checked.Refuse f) x e = cc
+
+pub read-is : (c : Checked) (x : Read) {sense : Sense} {qs : List Resource} {ts : List Task} → readUnless c x ≡ Read.Plan sense qs ts → x ≡ Read.Plan sense qs ts
+read-is Checked.Accepted x e = e
+read-is (Checked.Refuse f) x e = cc
+
+module _ (places space : ℕ) (file : List ℕ) (good : AllBytes file ≡ true) where
+  abbrev pub head : Header
+  head = headerIn file
+
+  -- what is left to check after each check
+  left-over : Checked
+  left-over = refuseIf (ltb (fileEnd head) (length file)) (CutShort (fileEnd head))
+
+  from-tasks : Checked
+  from-tasks = orElse (eachDue TK (head .tasks) (tasksFrom head) (drop (tasksFrom head) file)) left-over
+
+  from-resources : Checked
+  from-resources = orElse (eachDue RS (head .resources) 6 (drop 6 file)) from-tasks
+
+  from-header : Checked
+  from-header = orElse (headerDue places space head) from-resources
+
+  module _ (shape : shapeDue places space head file ≡ Checked.Accepted) where
+    pl : due PL 0 file ≡ Checked.Accepted
+    unfolding shapeDue from-header from-resources from-tasks left-over
+    pl = then-first (due PL 0 file) from-header shape
+
+    in-header : from-header ≡ Checked.Accepted
+    unfolding shapeDue from-header from-resources from-tasks left-over
+    in-header = then-second (due PL 0 file) from-header shape
+
+    header-passed : headerDue places space head ≡ Checked.Accepted
+    unfolding from-header
+    header-passed = then-first (headerDue places space head) from-resources in-header
+
+    in-resources : from-resources ≡ Checked.Accepted
+    unfolding from-header
+    in-resources = then-second (headerDue places space head) from-resources in-header
+
+    rs : eachDue RS (head .resources) 6 (drop 6 file) ≡ Checked.Accepted
+    unfolding from-resources
+    rs = then-first (eachDue RS (head .resources) 6 (drop 6 file)) from-tasks in-resources
+
+    in-tasks : from-tasks ≡ Checked.Accepted
+    unfolding from-resources
+    in-tasks = then-second (eachDue RS (head .resources) 6 (drop 6 file)) from-tasks in-resources
+
+    tk : eachDue TK (head .tasks) (tasksFrom head) (drop (tasksFrom head) file) ≡ Checked.Accepted
+    unfolding from-tasks
+    tk = then-first (eachDue TK (head .tasks) (tasksFrom head) (drop (tasksFrom head) file)) left-over in-tasks
+
+    nothing-left : length file ≤ fileEnd head
+    unfolding from-tasks left-over
+    nothing-left =
+        ltb-false (fileEnd head) (length file)
+        (unrefused (ltb (fileEnd head) (length file)) (CutShort (fileEnd head))
+        (then-second (eachDue TK (head .tasks) (tasksFrom head) (drop (tasksFrom head) file)) left-over in-tasks))
+
+    -- the file is its three parts
+    parts : take 6 file ++ (take (head .resources * 10) (drop 6 file) ++ take (head .tasks * 36) (drop (tasksFrom head) file)) ≡ file
+    parts =
+        rw (
+          take-all (head .tasks * 36) (drop (tasksFrom head) file) (omega (arith, length-drop (tasksFrom head) file, nothing-left)),
+          ← drop-drop (head .resources * 10) 6 file,
+          take-append-drop (head .resources * 10) (drop 6 file),
+          take-append-drop 6 file,
+        )
+
+    resource-numbers-in : map resourceNumbers (resourcesIn head file) ≡ recordsIn RS (head .resources) (drop 6 file)
+    unfolding resourcesIn
+    resource-numbers-in =
+        map-back resourceFrom resourceNumbers resource-numbers
+        (records-held RS (head .resources) 6 (drop 6 file) rs (bytes-drop 6 file good))
+
+    task-numbers-in : map taskNumbers (tasksIn head file) ≡ recordsIn TK (head .tasks) (drop (tasksFrom head) file)
+    unfolding tasksIn
+    task-numbers-in =
+        map-back taskFrom taskNumbers task-numbers
+        (records-held TK (head .tasks) (tasksFrom head) (drop (tasksFrom head) file) tk (bytes-drop (tasksFrom head) file good))
+
+    length-resources-in : length (resourcesIn head file) ≡ head .resources
+    unfolding resourcesIn
+    length-resources-in = length-map (recordsIn RS (head .resources) (drop 6 file)) resourceFrom ∙ length-recordsIn RS (head .resources) (drop 6 file)
+
+    length-tasks-in : length (tasksIn head file) ≡ head .tasks
+    unfolding tasksIn
+    length-tasks-in =
+        length-map (recordsIn TK (head .tasks) (drop (tasksFrom head) file)) taskFrom
+        ∙ length-recordsIn TK (head .tasks) (drop (tasksFrom head) file)
+
+    sense-one : ltb 1 (head .sense) ≡ false
+    unfolding headerDue
+    sense-one = unrefused (ltb 1 (head .sense)) (WrongMark 0) (then-first (refuseIf (ltb 1 (head .sense)) (WrongMark 0)) rest header-passed)
+      where
+        rest : Checked
+        rest =
+            orElse (refuseIf (ltb mostTasks (head .tasks)) TooManyTasks)
+            (orElse (refuseIf (or (eqb (head .resources) 0) (ltb mostResources (head .resources))) ResourceCount)
+            (refuseIf (or (ltb places (head .resources)) (ltb space (head .tasks))) ListShort))
+
+    sense-number : (n : ℕ) → ltb 1 n ≡ false → senseNumber (senseFrom n) ≡ n
+    sense-number zero e = refl
+    sense-number (suc n) e = omega (arith, ltb-false 1 (suc n) e)
+
+    header-written : headerNumbers (header (senseFrom (head .sense)) (resourcesIn head file) (tasksIn head file)) ≡ numbersIn PL file
+    unfolding headerNumbers header headerIn headerFrom numbersIn fieldsIn
+    header-written = rw (sense-number (head .sense) sense-one, length-resources-in, length-tasks-in) header-fields
+      where
+        header-fields : head .sense ∷ head .resources ∷ head .tasks ∷ [] ≡ numbersIn PL file
+        header-fields = refl
+
+    pub write-back : written (senseFrom (head .sense)) (resourcesIn head file) (tasksIn head file) ≡ file
+    unfolding written header
+    write-back =
+        rw (
+          header-written,
+          resource-numbers-in,
+          task-numbers-in,
+          record-numbers PL 0 file pl good,
+          records-numbers RS (head .resources) 6 (drop 6 file) rs (bytes-drop 6 file good),
+          records-numbers TK (head .tasks) (tasksFrom head) (drop (tasksFrom head) file) tk (bytes-drop (tasksFrom head) file good),
+        )
+        parts
+
+    pub identified : Each Identified (resourcesIn head file)
+    unfolding resourcesIn
+    identified =
+        each-map resourceFrom resource-identified
+        (records-held RS (head .resources) 6 (drop 6 file) rs (bytes-drop 6 file good))
+
+    pub enough : (length (resourcesIn head file) ≤ places) × (length (tasksIn head file) ≤ space)
+    unfolding headerDue
+    enough =
+        let counts = refuseIf (or (eqb (head .resources) 0) (ltb mostResources (head .resources))) ResourceCount in
+        let short = refuseIf (or (ltb places (head .resources)) (ltb space (head .tasks))) ListShort in
+        let many = refuseIf (ltb mostTasks (head .tasks)) TooManyTasks in
+        let e = then-second counts short (then-second many (orElse counts short)
+        (then-second (refuseIf (ltb 1 (head .sense)) (WrongMark 0)) (orElse many (orElse counts short)) header-passed)) in
+        let f = unrefused (or (ltb places (head .resources)) (ltb space (head .tasks))) ListShort e in (
+          omega (arith, length-resources-in, ltb-false places (head .resources) (neither-first (ltb places (head .resources)) (ltb space (head .tasks)) f)),
+          omega (arith, length-tasks-in, ltb-false space (head .tasks) (neither-second (ltb places (head .resources)) (ltb space (head .tasks)) f)),
+        )
