@@ -1,0 +1,77 @@
+-- Laws of the view: its length, what stands at a place, what a store changes, its parts, and two joined. Both views map a function
+-- over rows, so each law is one of `map`.
+use mathlib.Core.Path.{_≡_, refl, ap}
+use mathlib.Core.List.{List, [], _∷_, _++_, map, map-append}
+use Prim.Native.Nat.{ℕ, zero, suc}
+use lib.IntN.{ℤ}
+use lib.ListN.{length, take, drop, getD, set, length-map, List·getD-map}
+use Rattle.plan.specs.declared.Task.{Task}
+use Rattle.plan.specs.declared.Resource.{Resource}
+use Rattle.rows.specs.View.{taskOf, noTask, tasksOf, resourceOf, noResource, resourcesOf}
+
+-- ---- over any function
+module _ {A B : Type 0} (f : A → B) where
+  pub map-set : (s : List A) (i : ℕ) (x : A) → map f (set s i x) ≡ set (map f s) i (f x)
+  map-set [] i x = refl
+  map-set (y ∷ s) zero x = refl
+  map-set (y ∷ s) (suc i) x = ap (λ (l : List B). f y ∷ l) (map-set s i x)
+
+  pub map-take : (n : ℕ) (s : List A) → map f (take n s) ≡ take n (map f s)
+  map-take zero s = refl
+  map-take (suc n) [] = refl
+  map-take (suc n) (x ∷ s) = ap (λ (l : List B). f x ∷ l) (map-take n s)
+
+  pub map-drop : (n : ℕ) (s : List A) → map f (drop n s) ≡ drop n (map f s)
+  map-drop zero s = refl
+  map-drop (suc n) [] = refl
+  map-drop (suc n) (x ∷ s) = map-drop n s
+
+-- ---- tasks
+pub length-tasks : (s : List (List ℤ)) → length (tasksOf s) ≡ length s
+unfolding tasksOf
+length-tasks s = length-map s taskOf
+
+pub tasks-at : (s : List (List ℤ)) (i : ℕ) → getD (tasksOf s) i noTask ≡ taskOf (getD s i [])
+unfolding tasksOf noTask
+tasks-at s i = List·getD-map taskOf s i []
+
+pub tasks-set : (s : List (List ℤ)) (i : ℕ) (r : List ℤ) → tasksOf (set s i r) ≡ set (tasksOf s) i (taskOf r)
+unfolding tasksOf
+tasks-set = map-set taskOf
+
+pub tasks-take : (n : ℕ) (s : List (List ℤ)) → tasksOf (take n s) ≡ take n (tasksOf s)
+unfolding tasksOf
+tasks-take = map-take taskOf
+
+pub tasks-drop : (n : ℕ) (s : List (List ℤ)) → tasksOf (drop n s) ≡ drop n (tasksOf s)
+unfolding tasksOf
+tasks-drop = map-drop taskOf
+
+pub tasks-append : (s t : List (List ℤ)) → tasksOf (s ++ t) ≡ tasksOf s ++ tasksOf t
+unfolding tasksOf
+tasks-append s t = map-append taskOf s t
+
+-- ---- resources
+pub length-resources : (s : List (List ℤ)) → length (resourcesOf s) ≡ length s
+unfolding resourcesOf
+length-resources s = length-map s resourceOf
+
+pub resources-at : (s : List (List ℤ)) (i : ℕ) → getD (resourcesOf s) i noResource ≡ resourceOf (getD s i [])
+unfolding resourcesOf noResource
+resources-at s i = List·getD-map resourceOf s i []
+
+pub resources-set : (s : List (List ℤ)) (i : ℕ) (r : List ℤ) → resourcesOf (set s i r) ≡ set (resourcesOf s) i (resourceOf r)
+unfolding resourcesOf
+resources-set = map-set resourceOf
+
+pub resources-take : (n : ℕ) (s : List (List ℤ)) → resourcesOf (take n s) ≡ take n (resourcesOf s)
+unfolding resourcesOf
+resources-take = map-take resourceOf
+
+pub resources-drop : (n : ℕ) (s : List (List ℤ)) → resourcesOf (drop n s) ≡ drop n (resourcesOf s)
+unfolding resourcesOf
+resources-drop = map-drop resourceOf
+
+pub resources-append : (s t : List (List ℤ)) → resourcesOf (s ++ t) ≡ resourcesOf s ++ resourcesOf t
+unfolding resourcesOf
+resources-append s t = map-append resourceOf s t
