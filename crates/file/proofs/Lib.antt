@@ -1,5 +1,6 @@
 -- Laws of the plan file.
 pub mod Numbers
+pub mod Stores
 pub mod Records
 pub mod Passed
 pub mod Files

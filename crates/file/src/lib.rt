@@ -1,4 +1,6 @@
 // Plan files: records of marked bytes, a cursor that hands them out one after another, a reader and a writer.
+mod fields;
+
 use plan::Refusal;
 use plan::Resource;
 use plan::Sense;
