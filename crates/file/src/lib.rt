@@ -1,4 +1,5 @@
 // Plan files: records of marked bytes, a cursor that hands them out one after another, a reader and a writer.
+mod reader;
 mod fields;
 
 use plan::Refusal;

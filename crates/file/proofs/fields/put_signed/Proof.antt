@@ -23,7 +23,7 @@ same-length c = search needs
 
 returns : tie.Need-returns
 returns c =     let s = c .before .before .before .before .before .before in
-    let put = λ (n : ℕ). sets (s .args .b .now) (s .args .at) (bytesOf 4 n) in
+    let put : ℕ → List ℕ = λ n. sets (s .args .b .now) (s .args .at) (bytesOf 4 n) in
     c .before .before .put-four .ensures
     ∙ ap put (c .before .before .before .unsigned .ensures)
     ∙ ap (λ (x : ℤ). put (ofZ w32 x)) (toZ-ofZ (s .fits .x))
