@@ -19,11 +19,11 @@ use Rattle.file.specs.declared.Mark.{Mark}
 use Rattle.file.specs.declared.Mark.the-variants.{PL, RS, TK}
 use Rattle.file.specs.declared.Header.{Header}
 use Rattle.file.specs.Format.{widths, size, recordBytes, fieldsIn, numbersIn, headerNumbers, headerFrom, resourceNumbers, resourceFrom, taskNumbers, taskFrom, senseNumber, senseFrom}
-use Rattle.file.specs.Writing.{recordsBytes, written}
-use Rattle.file.specs.Reading.{due, eachDue, recordsIn, headerIn, tasksFrom, fileEnd, resourcesIn, tasksIn, headerDue, shapeDue, Read, readUnless, readPlan}
+use Rattle.file.specs.Writing.{recordsBytes, ResourceSmall, TaskSmall, Each, nothing, also, written}
+use Rattle.file.specs.Reading.{due, eachDue, recordsIn, headerIn, tasksFrom, fileEnd, resourcesIn, tasksIn, headerDue, bodyDue, shapeDue, Read, readUnless, readPlan}
 use Rattle.file.proofs.Numbers.{AllBytes, room, bytes-drop}
-use Rattle.file.proofs.Records.{Each, nothing, also, Held, none, more, both, then-first, then-second, unrefused, held-fields, length-record, numbers-record, due-record, due-length, record-numbers, length-records, due-records, numbers-records, length-recordsIn, due-total, records-numbers, records-held}
-use Rattle.file.proofs.Passed.{neither-first, neither-second, Identified, ResourceSmall, TaskSmall, Passed, passed, resource-held, resource-back, task-held, task-back, resource-numbers, task-numbers, resource-identified}
+use Rattle.file.proofs.Records.{Held, none, more, both, then-first, then-second, unrefused, held-fields, length-record, numbers-record, due-record, due-length, record-numbers, length-records, due-records, numbers-records, length-recordsIn, due-total, records-numbers, records-held}
+use Rattle.file.proofs.Passed.{neither-first, neither-second, Identified, Passed, passed, resource-held, resource-back, task-held, task-back, resource-numbers, task-numbers, resource-identified}
 
 -- ---- a list mapped there and back
 module _ {A B : Type 0} {P : A → Type 0} where
@@ -155,7 +155,7 @@ module _ (sense : Sense) (qs : List Resource) (ts : List Task) (ids : Each Ident
   sense-back AtLeast = refl
 
   shape-due : (places space : ℕ) → length qs ≤ places → length ts ≤ space → shapeDue places space h (first ++ (resources ++ tasks)) ≡ Checked.Accepted
-  unfolding shapeDue first
+  unfolding shapeDue bodyDue first
   shape-due places space a b =
       let file = first ++ (resources ++ tasks) in
       simp (pl-due, header-due places space a b, resources-due, tasks-due, le-ltb (fileEnd h) (length file) (omega (arith, whole-length)))
@@ -195,11 +195,11 @@ module _ (places space : ℕ) (file : List ℕ) (good : AllBytes file ≡ true) 
 
   module _ (shape : shapeDue places space head file ≡ Checked.Accepted) where
     pl : due PL 0 file ≡ Checked.Accepted
-    unfolding shapeDue from-header from-resources from-tasks left-over
+    unfolding shapeDue bodyDue from-header from-resources from-tasks left-over
     pl = then-first (due PL 0 file) from-header shape
 
     in-header : from-header ≡ Checked.Accepted
-    unfolding shapeDue from-header from-resources from-tasks left-over
+    unfolding shapeDue bodyDue from-header from-resources from-tasks left-over
     in-header = then-second (due PL 0 file) from-header shape
 
     header-passed : headerDue places space head ≡ Checked.Accepted

@@ -26,15 +26,11 @@ use Rattle.plan.specs.Powers.{powerLow, powerHigh, powerFits, powersFit}
 use Rattle.rules.specs.Calls.{Checked, orElse, refuseIf, check, repeats, limits, rangesFit, setFits, tasksFit, mostTasks, mostResources}
 use Rattle.file.specs.declared.Mark.the-variants.{PL, RS, TK}
 use Rattle.file.specs.Format.{widths, resourceNumbers, resourceFrom, taskNumbers, taskFrom}
+use Rattle.file.specs.Writing.{Small, TaskSmall, ResourceSmall, Each, nothing, also}
 use Rattle.file.proofs.Numbers.{room}
-use Rattle.file.proofs.Records.{Each, nothing, also, Held, none, more, then-first, then-second, unrefused}
+use Rattle.file.proofs.Records.{Held, none, more, then-first, then-second, unrefused}
 
 -- ---- numbers within the ends of the page are numbers of four bytes
--- both ends of a range
-pub record Small (x y : ℤ) : Type 0 where
-  pub low : SFits w32 x
-  pub high : SFits w32 y
-
 small : (a b x y : ℤ) → negsuc 999999 ≤ℤ a → b ≤ℤ pos 1000000 → and (leZ a x) (and (leZ x y) (leZ y b)) ≡ true → Small x y
 small a b x y l h e =
     let p = and-first (leZ a x) (and (leZ x y) (leZ y b)) e in
@@ -42,14 +38,6 @@ small a b x y l h e =
     let r = and-first (leZ x y) (leZ y b) q in
     let s = and-second (leZ x y) (leZ y b) q in
     record { low = omega z; high = omega z }
-
--- a task whose numbers a TK record holds
-pub record TaskSmall (t : Task) : Type 0 where
-  pub set : t .set < 2 ^ 16
-  pub origin : Small (t .origin .low .0) (t .origin .high .0)
-  pub duration : Small (t .duration .low .0) (t .duration .high .0)
-  pub end : Small (t .end .low .0) (t .end .high .0)
-  pub height : Small (t .height .low .0) (t .height .high .0)
 
 pub task-small : (n : ℕ) (t : Task) → n ≤ 16 → rangesFit t ≡ true → setFits n t ≡ true → TaskSmall t
 unfolding rangesFit setFits spanFits powersFit
@@ -69,11 +57,7 @@ task-small n t l e f =
       height = small powerLow powerHigh _ _ (omega z) (omega z) (and-second n′ h q);
     }
 
--- a resource whose numbers an RS record holds; "an identifier (any signed 32-bit number ..)"
-pub record ResourceSmall (q : Resource) : Type 0 where
-  pub id : SFits w32 (q .id)
-  pub limit : SFits w32 (q .limit .0)
-
+-- "an identifier (any signed 32-bit number ..)"
 pub record Identified (q : Resource) : Type 0 where
   pub id : SFits w32 (q .id)
 

@@ -18,7 +18,7 @@ use Rattle.file.specs.declared.Mark.{Mark}
 use Rattle.file.specs.declared.Mark.the-variants.{PL, RS, TK}
 use Rattle.file.specs.Numbers.{bytesOf, numberOf}
 use Rattle.file.specs.Format.{mark, widths, total, size, fieldBytes, recordBytes, fieldsIn, numbersIn}
-use Rattle.file.specs.Writing.{recordsBytes}
+use Rattle.file.specs.Writing.{recordsBytes, Each, nothing, also}
 use Rattle.file.specs.Reading.{marked, due, eachDue, recordsIn}
 use Rattle.file.proofs.Numbers.{AllBytes, room, length-bytes, number-bytes, bytes-number, number-small, bytes-drop, bytes-take}
 
@@ -161,10 +161,6 @@ module _ (k : Mark) (at : ℕ) (bs : List ℕ) (h : due k at bs ≡ Checked.Acce
       rw (← mark-taken, bytes-fields (widths k) (drop 2 bs) (omega (arith, length-drop 2 bs, due-length)) (bytes-drop 2 bs a), take-add 2 (total (widths k)) bs)
 
 -- ---- records of one mark, one after another
-pub data Each {A : Type 0} (P : A → Type 0) : List A → Type 0 where
-  nothing : Each P []
-  also : {x : A} {xs : List A} → P x → Each P xs → Each P (x ∷ xs)
-
 module _ (k : Mark) where
   pub length-records : {nss : List (List ℕ)} → Each (Held (widths k)) nss → length (recordsBytes k nss) ≡ length nss * size k
   unfolding recordsBytes

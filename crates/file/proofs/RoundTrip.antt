@@ -10,10 +10,10 @@ use Rattle.plan.specs.declared.Resource.{Resource}
 use Rattle.plan.specs.declared.Sense.{Sense}
 use Rattle.rules.specs.Calls.{Checked, orElse, check}
 use Rattle.file.specs.Format.{senseFrom}
-use Rattle.file.specs.Writing.{written}
+use Rattle.file.specs.Writing.{written, Each}
 use Rattle.file.specs.Reading.{headerIn, resourcesIn, tasksIn, shapeDue, Read, readUnless, readPlan}
 use Rattle.file.proofs.Numbers.{AllBytes}
-use Rattle.file.proofs.Records.{Each, then-first, then-second}
+use Rattle.file.proofs.Records.{then-first, then-second}
 use Rattle.file.proofs.Passed.{Identified}
 use Rattle.file.proofs.Files.{read-back, write-back, identified, enough, read-accepted, read-is}
 

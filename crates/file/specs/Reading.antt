@@ -18,6 +18,7 @@ use Rattle.file.specs.declared.Header.{Header}
 use Rattle.file.specs.declared.Cursor.{Cursor}
 use Rattle.file.specs.declared.Record.{Record}
 use Rattle.file.specs.declared.ReadAnswer.{ReadAnswer}
+use Rattle.file.specs.declared.Run.{Run}
 use Rattle.file.specs.Format.{mark, size, numbersIn, headerFrom, resourceFrom, taskFrom, senseFrom}
 use Rattle.file.specs.Writing.{laid}
 
@@ -66,14 +67,16 @@ headerDue places room h =
     (orElse (refuseIf (or (eqb (h .resources) 0) (ltb mostResources (h .resources))) ResourceCount)
     (refuseIf (or (ltb places (h .resources)) (ltb room (h .tasks))) ListShort)))
 
--- one PL, all RS, all TK; "After the last record, leftover bytes 9"
-unfoldable pub shapeDue : ℕ → ℕ → Header → List ℕ → Checked
-shapeDue places room h file =
-    orElse (due PL 0 file)
-    (orElse (headerDue places room h)
-    (orElse (eachDue RS (h .resources) (size PL) (drop (size PL) file))
+-- all RS, all TK; "After the last record, leftover bytes 9"
+unfoldable pub bodyDue : Header → List ℕ → Checked
+bodyDue h file =
+    orElse (eachDue RS (h .resources) (size PL) (drop (size PL) file))
     (orElse (eachDue TK (h .tasks) (tasksFrom h) (drop (tasksFrom h) file))
-    (refuseIf (ltb (fileEnd h) (length file)) (CutShort (fileEnd h))))))
+    (refuseIf (ltb (fileEnd h) (length file)) (CutShort (fileEnd h))))
+
+-- "One PL, all RS, all TK, nothing more"
+unfoldable pub shapeDue : ℕ → ℕ → Header → List ℕ → Checked
+shapeDue places room h file = orElse (due PL 0 file) (orElse (headerDue places room h) (bodyDue h file))
 
 -- the plan of a file, or its refusal
 pub data Read : Type 0 where
@@ -106,7 +109,7 @@ readInto (Refuse f) qs ts = record { answer = ReadAnswer.Refused f; resources = 
 unfoldable pub readCall : List ℕ → List Resource → List Task → ReadResult
 readCall file qs ts = readInto (readPlan (length qs) (length ts) file) qs ts
 
--- ---- what the reader hands out at a place
+-- ---- what the reader hands out at a place, and over a run of records
 abbrev pub cursor : ℕ → Cursor
 cursor at = record { at = at }
 
@@ -136,3 +139,8 @@ notDue k at (Record.Plan h c) = WrongMark at
 notDue k at (Record.Resource q c) = WrongMark at
 notDue k at (Record.Task t c) = WrongMark at
 notDue k at Record.NoMark = WrongMark at
+
+-- the cursor past a run, or the refusal
+abbrev pub through : Checked → Cursor → Run
+through Checked.Accepted c = Run.Through c
+through (Checked.Refuse f) c = Run.Refused f

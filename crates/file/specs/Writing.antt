@@ -1,6 +1,9 @@
 -- What is written: "One PL, all RS, all TK, nothing more"; and what the writing call answers and leaves.
 use mathlib.Core.List.{List, [], _∷_, _++_, map}
-use Prim.Native.Nat.{ℕ}
+use Prim.Native.Nat.{ℕ, _<_, _^_}
+use lib.IntN.{ℤ}
+use mir.Syntax.{w32}
+use mir.Val.{SFits}
 use lib.Dec.{ltb}
 use lib.ListN.{length, drop}
 use Rattle.plan.specs.declared.Task.{Task}
@@ -25,6 +28,27 @@ written sense qs ts =
     recordBytes PL (headerNumbers (record { sense = senseNumber sense; resources = length qs; tasks = length ts }))
     ++ (recordsBytes RS (map resourceNumbers qs) ++ recordsBytes TK (map taskNumbers ts))
 
+-- ---- what the fields of a record hold: a set of two bytes, signed numbers of four
+pub record Small (x y : ℤ) : Type 0 where
+  pub low : SFits w32 x
+  pub high : SFits w32 y
+
+pub record TaskSmall (t : Task) : Type 0 where
+  pub set : t .set < 2 ^ 16
+  pub origin : Small (t .origin .low .0) (t .origin .high .0)
+  pub duration : Small (t .duration .low .0) (t .duration .high .0)
+  pub end : Small (t .end .low .0) (t .end .high .0)
+  pub height : Small (t .height .low .0) (t .height .high .0)
+
+pub record ResourceSmall (q : Resource) : Type 0 where
+  pub id : SFits w32 (q .id)
+  pub limit : SFits w32 (q .limit .0)
+
+pub data Each {A : Type 0} (P : A → Type 0) : List A → Type 0 where
+  nothing : Each P []
+  also : {x : A} {xs : List A} → P x → Each P xs → Each P (x ∷ xs)
+
+-- ---- the writing call
 -- the first places hold xs, later ones stay
 abbrev pub laid {ℓ} : {A : Type ℓ} → List A → List A → List A
 laid xs ds = xs ++ drop (length xs) ds

@@ -1,5 +1,6 @@
 // Plan files: records of marked bytes, a cursor that hands them out one after another, a reader and a writer.
 mod reader;
+mod writer;
 mod fields;
 
 use plan::Refusal;
@@ -35,6 +36,12 @@ pub enum Record {
     CutShort(Mark),
     NoMark,
     Ended,
+}
+
+// What a run of records answers: the cursor past the last, or one refusal.
+pub enum Run {
+    Through(Cursor),
+    Refused(Refusal),
 }
 
 // What the reader answers: the sense and the two counts, or one refusal.
