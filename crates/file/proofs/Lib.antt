@@ -3,6 +3,7 @@ pub mod Numbers
 pub mod Stores
 pub mod Records
 pub mod Places
+pub mod Handed
 pub mod Passed
 pub mod Files
 pub mod RoundTrip

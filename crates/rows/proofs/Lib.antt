@@ -1,4 +1,5 @@
--- Laws of the view, of tasks that pass the entry checks, and of the changes that a step tells.
+-- Laws of the view, of tasks that pass the entry checks, of the changes that a step tells, and of a step task by task.
 pub mod View
 pub mod Fits
 pub mod Changes
+pub mod Walk

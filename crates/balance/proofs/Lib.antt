@@ -1,0 +1,2 @@
+-- What the balance step's sums need, and what it leaves.
+pub mod Fits

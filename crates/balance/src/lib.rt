@@ -1,0 +1,87 @@
+// The balance step: origin + duration = end, each of the three cut to what the other two leave. Every cut is worked out from the
+// ranges as they entered.
+ghost use mathlib.Core.Path.{_≡_};
+ghost use mathlib.Core.Bool.{Bool, true};
+ghost use mathlib.Core.List.{List};
+ghost use Prim.Native.Nat.{ℕ};
+ghost use lib.ListN.{length};
+ghost use Rattle.rules.specs.Balance.{cuts, unlessEmpty, balanced, balance};
+ghost use Rattle.rows.specs.View.{tasksOf};
+ghost use Rattle.rows.specs.Fits.{Bounded, AllBounded};
+ghost use Rattle.rows.specs.Changes.{outcomeOf, touchedBy};
+use plan::Narrowed;
+use plan::Task;
+use plan::Value;
+use rows::Stepped;
+
+fn cut_task(t: Task) -> Task
+    requires { ⌜ Bounded t ⌝ }
+    ensures { λ r. ⌜ r ≡ cuts t ⌝ }
+{
+    let o = t.origin;
+    let d = t.duration;
+    let e = t.end;
+    let height = t.height;
+    let origin = o.cut_to(e.low.minus(d.high), e.high.minus(d.low));
+    let duration = d.cut_to(e.low.minus(o.high), e.high.minus(o.low));
+    let end = e.cut_to(o.low.plus(d.low), o.high.plus(d.high));
+    Task {
+        set: t.set,
+        origin: origin,
+        duration: duration,
+        end: end,
+        height: height,
+    }
+}
+
+// The task, or the first of its ranges that is empty.
+fn unless_empty(t: Task) -> Narrowed
+    ensures { λ r. ⌜ r ≡ unlessEmpty t ⌝ }
+{
+    if t.origin.is_empty() {
+        return Narrowed::RanOut(Value::Origin);
+    }
+    if t.duration.is_empty() {
+        return Narrowed::RanOut(Value::Duration);
+    }
+    if t.end.is_empty() {
+        return Narrowed::RanOut(Value::End);
+    }
+    Narrowed::Kept(t)
+}
+
+pub fn balance_task(t: Task) -> Narrowed
+    requires { ⌜ Bounded t ⌝ }
+    ensures { λ r. ⌜ r ≡ balanced t ⌝ }
+{
+    unless_empty(cut_task(t))
+}
+
+// "For every task", in place, up to the first of which nothing is left.
+pub fn balance(s: &mut [[i64; 9]]) -> Stepped
+    requires { ⌜ AllBounded (tasksOf (now s)) ⌝ }
+    ensures after { λ r. ⌜ outcomeOf (r .ok) (tasksOf (now (s .exit))) ≡ balance (tasksOf (now (s .entry))) ⌝ }
+    ensures noted { λ r. ⌜ (r .ok ≡ true → r .touched ≡ touchedBy (tasksOf (now (s .entry))) (tasksOf (now (s .exit)))) ⌝ }
+{
+    let mut touched: u64 = 0;
+    let mut i: usize = 0;
+    while i < s.len() {
+        let t = rows::task_at(s, i);
+        match balance_task(t) {
+            Narrowed::Kept(u) => {
+                touched = rows::put_changed(s, i, u, touched);
+            }
+            Narrowed::RanOut(_) => {
+                return Stepped {
+                    ok: false,
+                    touched: touched,
+                };
+            }
+        }
+        i += 1;
+    }
+    Stepped {
+        ok: true,
+        touched: touched,
+    }
+}

@@ -1,0 +1,2 @@
+-- How far the checks have come.
+pub mod Checks

@@ -1,0 +1,76 @@
+-- The first refusal, in the page's order.
+use mathlib.Core.Path.{_≡_, sym, ap, _∙_}
+use mathlib.Core.List.{[]}
+use Rattle.rules.specs.Calls.{repeats, limits}
+use Rattle.rules.specs.Calls.Checked.{Accepted, Refuse}
+use Rattle.rows.specs.View.{resourcesOf}
+use Rattle.rows.proofs.View.{length-resources}
+use Rattle.entry.specs.Checks.{checkedOf, contents}
+use borrow.Author.Needs.{needs}
+use Rattle.entry.proofs.check_contents.Statement.{statement}
+use Rattle.entry.proofs.check_contents.Tie as tie
+
+check-identifiers-requires : tie.Need-check-identifiers-requires
+check-identifiers-requires c κs = search needs
+
+enum-known-identifiers : tie.Need-enum-known-identifiers
+enum-known-identifiers c = search needs
+
+enum-told : tie.Need-enum-told
+enum-told c = search needs
+
+check-limits-requires : tie.Need-check-limits-requires
+check-limits-requires c κs = search needs
+
+enum-known-limits : tie.Need-enum-known-limits
+enum-known-limits c = search needs
+
+enum-told-2 : tie.Need-enum-told-2
+enum-told-2 c = search needs
+
+check-tasks-requires : tie.Need-check-tasks-requires
+check-tasks-requires c κs = search needs
+
+returns : tie.Need-returns
+unfolding contents
+returns c =
+    let b = c .before .before .before in
+    let e : repeats 0 [] (resourcesOf (b .before .args .q .now)) ≡ Refuse (c .before .identifiers .given .0 .0) =
+    sym (b .check-identifiers .ensures) ∙ ap checkedOf (c .before .identifiers .given .1) in
+    rw e
+
+returns-2 : tie.Need-returns-2
+unfolding contents
+returns-2 c =
+    let l = c .before .before .before in
+    let b = l .before .before .before in
+    let e : repeats 0 [] (resourcesOf (b .before .args .q .now)) ≡ Accepted =
+    sym (b .check-identifiers .ensures) ∙ ap checkedOf (l .before .enum-told .given .1) in
+    let f : limits 0 (resourcesOf (b .before .args .q .now)) ≡ Refuse (c .before .limits .given .0 .0) =
+    sym (l .check-limits .ensures) ∙ ap checkedOf (c .before .limits .given .1) in
+    rw (e, f)
+
+returns-3 : tie.Need-returns-3
+unfolding contents
+returns-3 c =
+    let l = c .before .before .before in
+    let b = l .before .before .before in
+    let q = b .before .args .q .now in
+    let e : repeats 0 [] (resourcesOf q) ≡ Accepted = sym (b .check-identifiers .ensures) ∙ ap checkedOf (l .before .enum-told .given .1) in
+    let f : limits 0 (resourcesOf q) ≡ Accepted = sym (l .check-limits .ensures) ∙ ap checkedOf (c .before .enum-told2 .given .1) in
+    rw (e, f, length-resources q) (c .check-tasks .ensures)
+
+pub check-contents-spec : {M : Type 1} → statement M
+check-contents-spec =
+    tie.close
+    (tie.spec
+    check-identifiers-requires
+    enum-known-identifiers
+    enum-told
+    check-limits-requires
+    enum-known-limits
+    enum-told-2
+    check-tasks-requires
+    returns
+    returns-2
+    returns-3)

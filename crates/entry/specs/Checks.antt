@@ -1,0 +1,24 @@
+-- What the code answers, in the page's words; and the parts of the page's checks that one function each carries out.
+use mathlib.Core.List.{List, [], _∷_}
+use Prim.Native.Nat.{ℕ, zero, suc}
+use lib.IntN.{ℤ}
+use lib.ListN.{length, getD}
+use Rattle.plan.specs.declared.Task.{Task}
+use Rattle.plan.specs.declared.Resource.{Resource}
+use Rattle.rules.specs.Calls.{Checked, orElse, repeats, limits, tasksFit}
+use Rattle.rows.specs.View.{noResource}
+use Rattle.entry.specs.declared.Entry.{Entry}
+use Rattle.entry.specs.declared.Entry.the-variants.{Accepted, Refused}
+
+abbrev pub checkedOf : Entry → Checked
+checkedOf Accepted = Checked.Accepted
+checkedOf (Refused f) = Checked.Refuse f
+
+-- the identifiers of the first k resources, the latest first
+unfoldable pub seen : ℕ → List Resource → List ℤ
+seen zero qs = []
+seen (suc k) qs = (getD qs k noResource) .id ∷ seen k qs
+
+-- 3 to 6
+unfoldable pub contents : List Resource → List Task → Checked
+contents qs ts = orElse (repeats 0 [] qs) (orElse (limits 0 qs) (tasksFit (length qs) 0 ts))

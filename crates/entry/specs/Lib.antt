@@ -1,0 +1,2 @@
+-- The entry checks as code answers them.
+pub mod Checks
