@@ -19,7 +19,7 @@ use Rattle.file.specs.declared.Mark.{Mark}
 use Rattle.file.specs.declared.Mark.the-variants.{PL, RS, TK}
 use Rattle.file.specs.declared.Header.{Header}
 use Rattle.file.specs.Format.{widths, size, recordBytes, fieldsIn, numbersIn, headerNumbers, headerFrom, resourceNumbers, resourceFrom, taskNumbers, taskFrom, senseNumber, senseFrom}
-use Rattle.file.specs.Writing.{recordsBytes, ResourceSmall, TaskSmall, Each, nothing, also, written}
+use Rattle.file.specs.Writing.{recordsBytes, ResourceSmall, TaskSmall, Each, nothing, also, headerOf, written}
 use Rattle.file.specs.Reading.{due, eachDue, recordsIn, headerIn, tasksFrom, fileEnd, resourcesIn, tasksIn, headerDue, bodyDue, shapeDue, Read, readUnless, readPlan}
 use Rattle.file.proofs.Numbers.{AllBytes, room, bytes-drop}
 use Rattle.file.proofs.Records.{Held, none, more, both, then-first, then-second, unrefused, held-fields, length-record, numbers-record, due-record, due-length, record-numbers, length-records, due-records, numbers-records, length-recordsIn, due-total, records-numbers, records-held}
@@ -36,12 +36,9 @@ module _ {A B : Type 0} {P : A → Type 0} where
   map-back f g e (also {x} {xs} h r) = rw (e x h, map-back f g e r)
 
 -- ---- a written plan
-unfoldable pub header : Sense → List Resource → List Task → Header
-header sense qs ts = record { sense = senseNumber sense; resources = length qs; tasks = length ts }
-
 module _ (sense : Sense) (qs : List Resource) (ts : List Task) (ids : Each Identified qs) (pass : check qs ts ≡ Checked.Accepted) where
   abbrev pub h : Header
-  h = header sense qs ts
+  h = headerOf sense (length qs) (length ts)
 
   first : List ℕ
   first = recordBytes PL (headerNumbers h)
@@ -60,7 +57,7 @@ module _ (sense : Sense) (qs : List Resource) (ts : List Task) (ids : Each Ident
   sense-small AtLeast = omega arith
 
   header-held : Held (widths PL) (headerNumbers h)
-  unfolding headerNumbers room header
+  unfolding headerNumbers room headerOf
   header-held =
       let r : length qs < room 1 = omega (arith, p .few-resources) in
       let t : length ts < room 2 = omega (arith, p .few-tasks) in
@@ -89,37 +86,37 @@ module _ (sense : Sense) (qs : List Resource) (ts : List Task) (ids : Each Ident
   length-tasks = length-records TK tasks-held ∙ ap (λ (n : ℕ). n * 36) (length-map ts taskNumbers)
 
   after-resources : drop (tasksFrom h) (first ++ (resources ++ tasks)) ≡ tasks
-  unfolding header
+  unfolding headerOf
   after-resources =
       sym (drop-drop (length qs * 10) 6 (first ++ (resources ++ tasks)))
       ∙ ap (drop (length qs * 10)) after-header
       ∙ drop-at resources tasks (length qs * 10) length-resources
 
   whole-length : length (first ++ (resources ++ tasks)) ≡ fileEnd h
-  unfolding first header
+  unfolding first headerOf
   whole-length =
       omega (arith, length-append first (resources ++ tasks), length-append resources tasks, length-record PL header-held, length-resources, length-tasks)
 
   pub length-written : length (written sense qs ts) ≡ fileEnd h
-  unfolding written first resources tasks header
+  unfolding written first resources tasks headerOf
   length-written = whole-length
 
   resources-read : resourcesIn h (first ++ (resources ++ tasks)) ≡ qs
-  unfolding resourcesIn resources header
+  unfolding resourcesIn resources headerOf
   resources-read =
       rw (after-header)
       (subst (λ (n : ℕ). map resourceFrom (recordsIn RS n (resources ++ tasks)) ≡ qs) (length-map qs resourceNumbers)
       (rw (numbers-records RS resources-held tasks) (map-back resourceNumbers resourceFrom resource-back (p .resources ids))))
 
   resources-due : eachDue RS (h .resources) 6 (drop 6 (first ++ (resources ++ tasks))) ≡ Checked.Accepted
-  unfolding resources header
+  unfolding resources headerOf
   resources-due =
       rw after-header
       (subst (λ (n : ℕ). eachDue RS n 6 (resources ++ tasks) ≡ Checked.Accepted) (length-map qs resourceNumbers)
       (due-records RS resources-held 6 tasks))
 
   tasks-read : tasksIn h (first ++ (resources ++ tasks)) ≡ ts
-  unfolding tasksIn tasks header
+  unfolding tasksIn tasks headerOf
   tasks-read =
       rw after-resources
       (subst (λ (l : List ℕ). map taskFrom (recordsIn TK (length ts) l) ≡ ts) (append-nil tasks)
@@ -127,7 +124,7 @@ module _ (sense : Sense) (qs : List Resource) (ts : List Task) (ids : Each Ident
       (rw (numbers-records TK tasks-held []) (map-back taskNumbers taskFrom task-back (p .tasks)))))
 
   tasks-due : eachDue TK (h .tasks) (tasksFrom h) (drop (tasksFrom h) (first ++ (resources ++ tasks))) ≡ Checked.Accepted
-  unfolding tasks header
+  unfolding tasks headerOf
   tasks-due =
       rw after-resources
       (subst (λ (l : List ℕ). eachDue TK (length ts) (tasksFrom h) l ≡ Checked.Accepted) (append-nil tasks)
@@ -135,7 +132,7 @@ module _ (sense : Sense) (qs : List Resource) (ts : List Task) (ids : Each Ident
       (due-records TK tasks-held (tasksFrom h) [])))
 
   header-due : (places space : ℕ) → length qs ≤ places → length ts ≤ space → headerDue places space h ≡ Checked.Accepted
-  unfolding headerDue header
+  unfolding headerDue headerOf
   header-due places space a b =
       simp (
         one-or-none sense,
@@ -164,7 +161,7 @@ module _ (sense : Sense) (qs : List Resource) (ts : List Task) (ids : Each Ident
       pl-due = due-record PL header-held 0 (resources ++ tasks)
 
   pub read-back : (places space : ℕ) → length qs ≤ places → length ts ≤ space → readPlan places space (written sense qs ts) ≡ Read.Plan sense qs ts
-  unfolding readPlan written first resources tasks header
+  unfolding readPlan written first resources tasks headerOf
   read-back places space a b = rw (header-is, shape-due places space a b, resources-read, tasks-read, pass) (ap (λ (s : Sense). Read.Plan s qs ts) (sense-back sense))
 
 -- ---- a file that is read
@@ -275,15 +272,15 @@ module _ (places space : ℕ) (file : List ℕ) (good : AllBytes file ≡ true) 
     sense-number zero e = refl
     sense-number (suc n) e = omega (arith, ltb-false 1 (suc n) e)
 
-    header-written : headerNumbers (header (senseFrom (head .sense)) (resourcesIn head file) (tasksIn head file)) ≡ numbersIn PL file
-    unfolding headerNumbers header headerIn headerFrom numbersIn fieldsIn
+    header-written : headerNumbers (headerOf (senseFrom (head .sense)) (length (resourcesIn head file)) (length (tasksIn head file))) ≡ numbersIn PL file
+    unfolding headerNumbers headerOf headerIn headerFrom numbersIn fieldsIn
     header-written = rw (sense-number (head .sense) sense-one, length-resources-in, length-tasks-in) header-fields
       where
         header-fields : head .sense ∷ head .resources ∷ head .tasks ∷ [] ≡ numbersIn PL file
         header-fields = refl
 
     pub write-back : written (senseFrom (head .sense)) (resourcesIn head file) (tasksIn head file) ≡ file
-    unfolding written header
+    unfolding written headerOf
     write-back =
         rw (
           header-written,

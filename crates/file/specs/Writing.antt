@@ -13,6 +13,7 @@ use Rattle.plan.specs.declared.Refusal.the-variants.{BufferShort}
 use Rattle.rules.specs.Calls.{Checked, orElse, refuseIf, check}
 use Rattle.file.specs.declared.Mark.{Mark}
 use Rattle.file.specs.declared.Mark.the-variants.{PL, RS, TK}
+use Rattle.file.specs.declared.Header.{Header}
 use Rattle.file.specs.declared.WriteAnswer.{WriteAnswer}
 use Rattle.file.specs.declared.WriteAnswer.the-variants.{Written, Refused}
 use Rattle.file.specs.Format.{recordBytes, headerNumbers, resourceNumbers, taskNumbers, senseNumber}
@@ -22,10 +23,14 @@ unfoldable pub recordsBytes : Mark → List (List ℕ) → List ℕ
 recordsBytes k [] = []
 recordsBytes k (ns ∷ nss) = recordBytes k ns ++ recordsBytes k nss
 
+-- what a plan's PL record holds
+unfoldable pub headerOf : Sense → ℕ → ℕ → Header
+headerOf sense resources tasks = record { sense = senseNumber sense; resources = resources; tasks = tasks }
+
 -- the bytes of a plan
 unfoldable pub written : Sense → List Resource → List Task → List ℕ
 written sense qs ts =
-    recordBytes PL (headerNumbers (record { sense = senseNumber sense; resources = length qs; tasks = length ts }))
+    recordBytes PL (headerNumbers (headerOf sense (length qs) (length ts)))
     ++ (recordsBytes RS (map resourceNumbers qs) ++ recordsBytes TK (map taskNumbers ts))
 
 -- ---- what the fields of a record hold: a set of two bytes, signed numbers of four

@@ -1,16 +1,39 @@
-// Numbers in lent bytes, at a place: little-endian, signed ones in two's complement.
+// Marks, and numbers in lent bytes at a place: little-endian, signed ones in two's complement.
 ghost use mathlib.Core.Path.{_≡_};
 ghost use Prim.Native.Nat.{ℕ, _+_, _≤_, _<_};
 ghost use lib.IntN.{ℤ};
-ghost use lib.ListN.{length, take, drop};
+ghost use lib.ListN.{length, getD, take, drop};
 ghost use lib.Seq.{sets};
 ghost use mir.Syntax.{w32};
 ghost use mir.Val.{SFits};
 ghost use Rattle.plan.specs.Days.{day};
 ghost use Rattle.plan.specs.Powers.{power};
 ghost use Rattle.file.specs.Numbers.{bytesOf, numberOf, signedOf, unsignedOf};
+ghost use Rattle.file.specs.Format.{mark};
+use crate::Mark;
 use plan::Day;
 use plan::Power;
+
+// A mark's two bytes.
+pub fn first_byte(k: Mark) -> u8
+    ensures { λ r. ⌜ r ≡ getD (mark k) 0 0 ⌝ }
+{
+    match k {
+        Mark::PL => b'P',
+        Mark::RS => b'R',
+        Mark::TK => b'T',
+    }
+}
+
+pub fn second_byte(k: Mark) -> u8
+    ensures { λ r. ⌜ r ≡ getD (mark k) 1 0 ⌝ }
+{
+    match k {
+        Mark::PL => b'L',
+        Mark::RS => b'S',
+        Mark::TK => b'K',
+    }
+}
 
 fn wide(b: u8) -> u32
     ensures { λ r. ⌜ r ≡ b ⌝ }

@@ -10,9 +10,11 @@ use crate::Header;
 use crate::Mark;
 use crate::Record;
 use crate::fields::day_at;
+use crate::fields::first_byte;
 use crate::fields::id_at;
 use crate::fields::one_at;
 use crate::fields::power_at;
+use crate::fields::second_byte;
 use crate::fields::two_at;
 use plan::PowerSpan;
 use plan::Refusal;
@@ -67,27 +69,7 @@ fn task_of(b: &[u8]) -> Task
     }
 }
 
-// A mark's two bytes.
-fn first_byte(k: Mark) -> u8
-    ensures { λ r. ⌜ r ≡ getD (mark k) 0 0 ⌝ }
-{
-    match k {
-        Mark::PL => b'P',
-        Mark::RS => b'R',
-        Mark::TK => b'T',
-    }
-}
-
-fn second_byte(k: Mark) -> u8
-    ensures { λ r. ⌜ r ≡ getD (mark k) 1 0 ⌝ }
-{
-    match k {
-        Mark::PL => b'L',
-        Mark::RS => b'S',
-        Mark::TK => b'K',
-    }
-}
-
+// The two mark bytes are those of the mark.
 fn is_marked(k: Mark, b: &[u8]) -> bool
     requires { ⌜ 2 ≤ length (now b) ⌝ }
     ensures { λ r. ⌜ r ≡ marked k (now (b .entry)) ⌝ }
