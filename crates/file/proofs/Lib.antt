@@ -4,6 +4,7 @@ pub mod Stores
 pub mod Records
 pub mod Places
 pub mod Handed
+pub mod Runs
 pub mod Passed
 pub mod Files
 pub mod RoundTrip
