@@ -4,9 +4,10 @@ use mathlib.Core.Bool.{Bool, true, false}
 use mathlib.Core.List.{List, [], _∷_, _++_, map, append-nil}
 use Prim.Native.Nat.{ℕ, zero, suc, _+_, _*_, _≤_, _<_}
 use native.Mathlib.Omega.{arith}
+use native.Mathlib.Nat.{zero-add}
 use lib.Dec.{eqb, ltb}
 use lib.ListN.{length, take, drop, length-append, length-drop, length-map, take-append-drop}
-use lib.Seq.{drop-at, drop-drop, take-all}
+use lib.Seq.{drop-at, drop-drop, take-all, sets}
 use borrow.Author.Tests.{le-ltb, ne-eqb, ltb-false}
 use Rattle.integers.specs.Tests.{or}
 use Rattle.plan.specs.declared.Task.{Task}
@@ -22,6 +23,7 @@ use Rattle.file.specs.Format.{widths, size, recordBytes, fieldsIn, numbe
 use Rattle.file.specs.Writing.{recordsBytes, ResourceSmall, TaskSmall, Each, nothing, also, headerOf, written}
 use Rattle.file.specs.Reading.{due, eachDue, recordsIn, headerIn, tasksFrom, fileEnd, resourcesIn, tasksIn, headerDue, bodyDue, shapeDue, Read, readUnless, readPlan}
 use Rattle.file.proofs.Numbers.{AllBytes, room, bytes-drop}
+use Rattle.file.proofs.Stores.{sets-append}
 use Rattle.file.proofs.Records.{Held, none, more, both, then-first, then-second, unrefused, held-fields, length-record, numbers-record, due-record, due-length, record-numbers, length-records, due-records, numbers-records, length-recordsIn, due-total, records-numbers, records-held}
 use Rattle.file.proofs.Passed.{neither-first, neither-second, Identified, Passed, passed, resource-held, resource-back, task-held, task-back, resource-numbers, task-numbers, resource-identified}
 
@@ -100,6 +102,15 @@ module _ (sense : Sense) (qs : List Resource) (ts : List Task) (ids : Each Ident
   pub length-written : length (written sense qs ts) ≡ fileEnd h
   unfolding written first resources tasks headerOf
   length-written = whole-length
+
+  -- the file stored record after record
+  pub written-stores : (out : List ℕ) → sets out 0 (written sense qs ts) ≡ sets (sets (sets out 0 (recordBytes PL (headerNumbers h))) 6 (recordsBytes RS (map resourceNumbers qs))) (6 + length qs * 10) (recordsBytes TK (map taskNumbers ts))
+  unfolding written first resources tasks
+  written-stores out =
+      sets-append out 0 first (resources ++ tasks)
+      ∙ ap (λ (n : ℕ). sets (sets out 0 first) n (resources ++ tasks)) (zero-add (length first) ∙ length-record PL header-held)
+      ∙ sets-append (sets out 0 first) 6 resources tasks
+      ∙ ap (λ (n : ℕ). sets (sets (sets out 0 first) 6 resources) (6 + n) tasks) length-resources
 
   resources-read : resourcesIn h (first ++ (resources ++ tasks)) ≡ qs
   unfolding resourcesIn resources headerOf

@@ -7,14 +7,14 @@ use native.Mathlib.Omega.{arith}
 use native.Mathlib.Nat.{pow-le-pow-right, lt-of-lt-of-le}
 use lib.Dec.{eqb, ltb}
 use lib.IntN.{ℤ, pos, negsuc}
-use lib.Signed.{leZ, _≤ℤ_}
+use lib.Signed.{leZ, ltZ, _≤ℤ_}
 use lib.ListN.{length, getD}
 use mir.Syntax.{w32}
 use mir.Val.{SFits, Fits, toZ, ofZ}
 use mir.Facts.{fits-ofZ, toZ-ofZ, ofZ-toZ, sfits-toZ}
 use borrow.Author.Tests.{ltb-true, ltb-false, eqb-false, not-false}
 use Rattle.integers.specs.Tests.{and, or}
-use Rattle.integers.proofs.Tests.{and-first, and-second, clash}
+use Rattle.integers.proofs.Tests.{and-first, and-second, by-cases, clash}
 use Rattle.integers.proofs.Z.{z}
 use Rattle.plan.specs.declared.Task.{Task}
 use Rattle.plan.specs.declared.Resource.{Resource}
@@ -23,6 +23,7 @@ use Rattle.plan.specs.declared.Refusal.{Refusal}
 use Rattle.plan.specs.declared.Refusal.the-variants.{TooManyTasks, ResourceCount, LimitOutside, RangeOutside, SetOutside}
 use Rattle.plan.specs.Days.{dayLow, dayHigh, durationLow, durationHigh, spanFits}
 use Rattle.plan.specs.Powers.{powerLow, powerHigh, powerFits, powersFit}
+use Rattle.rows.specs.View.{cell, idOf, resourceOf, resourcesOf}
 use Rattle.rules.specs.Calls.{Checked, orElse, refuseIf, check, repeats, limits, rangesFit, setFits, tasksFit, mostTasks, mostResources}
 use Rattle.file.specs.declared.Mark.the-variants.{PL, RS, TK}
 use Rattle.file.specs.Format.{widths, resourceNumbers, resourceFrom, taskNumbers, taskFrom}
@@ -68,6 +69,18 @@ limit-small q e =
     let l = and-first (leZ powerLow x) (leZ x powerHigh) e in
     let h = and-second (leZ powerLow x) (leZ x powerHigh) e in
     omega z
+
+id-small : (x : ℤ) → SFits w32 (idOf x)
+unfolding idOf
+id-small x =
+    by-cases (ltZ x (negsuc 2147483647)) (λ e. rw e (omega z))
+    (λ e. by-cases (ltZ (pos 2147483647) x) (λ f. rw (e, f) (omega z)) (λ f. rw (e, f) (omega z)))
+
+-- every row's identifier is one
+pub identified-rows : (s : List (List ℤ)) → Each Identified (resourcesOf s)
+unfolding resourcesOf resourceOf
+identified-rows [] = nothing
+identified-rows (r ∷ s) = also (record { id = id-small (cell r 0) }) (identified-rows s)
 
 -- ---- what the checks say of the lists
 limits-pass : (k : ℕ) (qs : List Resource) → limits k qs ≡ Checked.Accepted → Each Identified qs → Each ResourceSmall qs

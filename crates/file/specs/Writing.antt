@@ -58,17 +58,27 @@ pub data Each {A : Type 0} (P : A → Type 0) : List A → Type 0 where
 abbrev pub laid {ℓ} : {A : Type ℓ} → List A → List A → List A
 laid xs ds = xs ++ drop (length xs) ds
 
--- the writing call's answer, and the buffer's later contents
+-- the answer, and the buffer's later contents
 pub record WriteResult : Type 0 where
   pub answer : WriteAnswer
   pub buffer : List ℕ
 
-abbrev pub writtenUnless : Checked → List ℕ → List ℕ → WriteResult
-writtenUnless Checked.Accepted file out = record { answer = Written (length file); buffer = laid file out }
-writtenUnless (Checked.Refuse f) file out = record { answer = Refused f; buffer = out }
+abbrev pub writeResult : WriteAnswer → List ℕ → WriteResult
+writeResult r out = record { answer = r; buffer = out }
 
--- 1 to 6, then 10: "output buffer shorter than the file"; "the writer writes exactly the file's length"
+abbrev pub writtenUnless : Checked → List ℕ → List ℕ → WriteResult
+writtenUnless Checked.Accepted file out = writeResult (Written (length file)) (laid file out)
+writtenUnless (Checked.Refuse f) file out = writeResult (Refused f) out
+
+-- 10: "output buffer shorter than the file"; "the writer writes exactly the file's length"
+unfoldable pub roomFor : List ℕ → List ℕ → Checked
+roomFor file out = refuseIf (ltb (length out) (length file)) BufferShort
+
+unfoldable pub writtenIn : List ℕ → List ℕ → WriteResult
+writtenIn file out = writtenUnless (roomFor file out) file out
+
+-- 1 to 6, then 10
 unfoldable pub writeCall : Sense → List Resource → List Task → List ℕ → WriteResult
 writeCall sense qs ts out =
     let file = written sense qs ts in
-    writtenUnless (orElse (check qs ts) (refuseIf (ltb (length out) (length file)) BufferShort)) file out
+    writtenUnless (orElse (check qs ts) (roomFor file out)) file out

@@ -3,10 +3,18 @@ mod reader;
 mod writer;
 mod fields;
 
+ghost use mathlib.Core.Path.{_≡_};
+ghost use Rattle.rules.specs.Calls.{Checked, check};
+ghost use Rattle.rows.specs.View.{tasksOf, resourcesOf};
+ghost use Rattle.file.specs.Writing.{written, writtenIn, writeResult, writeCall};
+use entry::Entry;
 use plan::Refusal;
 use plan::Resource;
 use plan::Sense;
 use plan::Task;
+use writer::put_header;
+use writer::put_resources;
+use writer::put_tasks;
 
 // The three marks.
 pub enum Mark {
@@ -54,4 +62,30 @@ pub enum ReadAnswer {
 pub enum WriteAnswer {
     Written(usize),
     Refused(Refusal),
+}
+
+// The bytes of a plan that passes the checks, if the buffer has room for them.
+fn put_plan(sense: Sense, q: &[[i64; 2]], s: &[[i64; 9]], out: &mut [u8]) -> WriteAnswer
+    requires { ⌜ check (resourcesOf (now q)) (tasksOf (now s)) ≡ Checked.Accepted ⌝ }
+    ensures { λ r. ⌜ writeResult r (now (out .exit)) ≡ writtenIn (written sense (resourcesOf (now (q .entry))) (tasksOf (now (s .entry)))) (now (out .entry)) ⌝ }
+{
+    let from = 6 + q.len() * 10;
+    let end = from + s.len() * 36;
+    if out.len() < end {
+        return WriteAnswer::Refused(Refusal::BufferShort);
+    }
+    put_header(out, sense, q.len(), s.len());
+    put_resources(out, 6, q);
+    put_tasks(out, from, s);
+    WriteAnswer::Written(end)
+}
+
+pub fn write(sense: Sense, q: &[[i64; 2]], s: &[[i64; 9]], out: &mut [u8]) -> WriteAnswer
+    ensures { λ r. ⌜ writeResult r (now (out .exit)) ≡ writeCall sense (resourcesOf (now (q .entry))) (tasksOf (now (s .entry))) (now (out .entry)) ⌝ }
+{
+    let checked = entry::check(q, s);
+    match checked {
+        Entry::Refused(f) => WriteAnswer::Refused(f),
+        Entry::Accepted => put_plan(sense, q, s, out),
+    }
 }
