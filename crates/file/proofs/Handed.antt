@@ -1,27 +1,31 @@
--- What is due, told from what the reader hands out; and runs of records, one step at a time.
+-- What is due, told from what the reader hands out.
 use mathlib.Core.Path.{_≡_, refl, sym, ap, _∙_}
 use mathlib.Core.Bool.{Bool, true, false, not}
 use mathlib.Core.List.{List, [], _∷_, _++_, map}
 use Prim.Native.Nat.{ℕ, zero, suc, _+_, _-_, _*_, _≤_, _<_}
 use native.Mathlib.Omega.{arith}
-use native.Mathlib.Numerals.{add-one}
 use lib.Dec.{eqb, ltb}
-use lib.ListN.{length, getD, drop, set}
-use lib.Seq.{drop-cons, drop-drop, sets}
-use borrow.Author.Tests.{eqb-true, eq-eqb}
+use lib.ListN.{length, getD}
+use borrow.Author.Tests.{eqb-true, eq-eqb, le-ltb}
+use mathlib.Core.Logic.{⊎-elim}
+use types.Run.{OneOf}
+use denote.Enum.Declared
+use Rattle.file.proofs.Record as Record'
 use Rattle.integers.specs.Tests.{if, and}
 use Rattle.integers.proofs.Tests.{by-cases, if-case, and-first, false-in, clash}
+use Rattle.plan.specs.declared.Task.{Task}
+use Rattle.plan.specs.declared.Resource.{Resource}
 use Rattle.plan.specs.declared.Refusal.{Refusal}
 use Rattle.plan.specs.declared.Refusal.the-variants.{WrongMark, CutShort}
 use Rattle.rules.specs.Calls.{Checked, orElse, refuseIf}
 use Rattle.file.specs.declared.Mark.{Mark}
 use Rattle.file.specs.declared.Mark.the-variants.{PL, RS, TK}
+use Rattle.file.specs.declared.Header.{Header}
+use Rattle.file.specs.declared.Cursor.{Cursor}
 use Rattle.file.specs.declared.Record.{Record}
-use Rattle.file.specs.Format.{mark, widths, size, numbersIn, headerFrom, resourceFrom, taskFrom, recordBytes}
-use Rattle.file.specs.Writing.{recordsBytes}
-use Rattle.file.specs.Reading.{marked, due, eachDue, recordsIn, cursor, whole, handed, sameMark, notDue}
-use Rattle.file.proofs.Records.{Held, length-record}
-use Rattle.file.proofs.Stores.{sets-append}
+use Rattle.file.specs.Format.{mark, size, numbersIn, headerFrom, resourceFrom, taskFrom}
+use Rattle.file.specs.Reading.{marked, due, cursor, whole, handed, sameMark, notDue}
+use Rattle.file.proofs.Records.{due-length, due-marked}
 
 -- a whole record of that mark
 abbrev pub holds : Mark → Record → Bool
@@ -106,3 +110,69 @@ module _ (at : ℕ) (bs : List ℕ) where
       (λ e m.
         by-cases (marked PL bs) (λ p. rw (e, p) (other TK at bs PL a refl refl))
         (λ p. by-cases (marked RS bs) (λ r. rw (e, p, r) (other TK at bs RS b refl refl)) (λ r. rw (e, p, r, m))))
+
+  -- a record that is due and stands there is handed out whole
+  module _ (k : Mark) (d : due k at bs ≡ Checked.Accepted) where
+    two-left : ltb (length bs) 2 ≡ false
+    two-left = le-ltb (length bs) 2 (omega (arith, due-length k at bs d))
+
+    all-left : ltb (length bs) (size k) ≡ false
+    all-left = le-ltb (length bs) (size k) (due-length k at bs d)
+
+  pub plan-whole : due PL at bs ≡ Checked.Accepted → handed at bs ≡ Record.Plan (headerFrom (numbersIn PL bs)) (cursor (at + 6))
+  unfolding handed
+  plan-whole d = rw (two-left PL d, due-marked PL at bs d, all-left PL d)
+
+  pub resource-whole : due RS at bs ≡ Checked.Accepted → handed at bs ≡ Record.Resource (resourceFrom (numbersIn RS bs)) (cursor (at + 10))
+  unfolding handed
+  resource-whole d =
+      let m = due-marked RS at bs d in rw (two-left RS d, apart RS PL bs refl m, m, all-left RS d)
+
+  pub task-whole : due TK at bs ≡ Checked.Accepted → handed at bs ≡ Record.Task (taskFrom (numbersIn TK bs)) (cursor (at + 36))
+  unfolding handed
+  task-whole d =
+      let m = due-marked TK at bs d in rw (two-left TK d, apart TK PL bs refl m, apart TK RS bs refl m, m, all-left TK d)
+
+-- ---- an answer that is not the record due, told from its place among the answers
+none-of-plan : OneOf (1 ∷ 2 ∷ 3 ∷ 4 ∷ 5 ∷ []) 0 → ⊥
+none-of-plan = ⊎-elim (λ e. omega arith) (⊎-elim (λ e. omega arith) (⊎-elim (λ e. omega arith) (⊎-elim (λ e. omega arith) (λ e. omega arith))))
+
+none-of-resource : OneOf (0 ∷ 2 ∷ 3 ∷ 4 ∷ 5 ∷ []) 1 → ⊥
+none-of-resource = ⊎-elim (λ e. omega arith) (⊎-elim (λ e. omega arith) (⊎-elim (λ e. omega arith) (⊎-elim (λ e. omega arith) (λ e. omega arith))))
+
+none-of-task : OneOf (0 ∷ 1 ∷ 3 ∷ 4 ∷ 5 ∷ []) 2 → ⊥
+none-of-task = ⊎-elim (λ e. omega arith) (⊎-elim (λ e. omega arith) (⊎-elim (λ e. omega arith) (⊎-elim (λ e. omega arith) (λ e. omega arith))))
+
+pub not-plan : (r : Record) → OneOf (1 ∷ 2 ∷ 3 ∷ 4 ∷ 5 ∷ []) (Declared.tagOf Record'.the-type r) → holds PL r ≡ false
+not-plan (Record.Plan h c) o = absurd (none-of-plan o)
+not-plan (Record.Resource q c) o = refl
+not-plan (Record.Task t c) o = refl
+not-plan (Record.CutShort j) o = refl
+not-plan Record.NoMark o = refl
+not-plan Record.Ended o = refl
+
+pub not-resource : (r : Record) → OneOf (0 ∷ 2 ∷ 3 ∷ 4 ∷ 5 ∷ []) (Declared.tagOf Record'.the-type r) → holds RS r ≡ false
+not-resource (Record.Plan h c) o = refl
+not-resource (Record.Resource q c) o = absurd (none-of-resource o)
+not-resource (Record.Task t c) o = refl
+not-resource (Record.CutShort j) o = refl
+not-resource Record.NoMark o = refl
+not-resource Record.Ended o = refl
+
+pub not-task : (r : Record) → OneOf (0 ∷ 1 ∷ 3 ∷ 4 ∷ 5 ∷ []) (Declared.tagOf Record'.the-type r) → holds TK r ≡ false
+not-task (Record.Plan h c) o = refl
+not-task (Record.Resource q c) o = refl
+not-task (Record.Task t c) o = absurd (none-of-task o)
+not-task (Record.CutShort j) o = refl
+not-task Record.NoMark o = refl
+not-task Record.Ended o = refl
+
+-- ---- what two equal answers hold
+pub same-plan : {h g : Header} {c d : Cursor} → Record.Plan h c ≡ Record.Plan g d → (h ≡ g) × (c ≡ d)
+same-plan e = (cc, cc)
+
+pub same-resource : {q r : Resource} {c d : Cursor} → Record.Resource q c ≡ Record.Resource r d → (q ≡ r) × (c ≡ d)
+same-resource e = (cc, cc)
+
+pub same-task : {t u : Task} {c d : Cursor} → Record.Task t c ≡ Record.Task u d → (t ≡ u) × (c ≡ d)
+same-task e = (cc, cc)

@@ -29,10 +29,7 @@ then-first (Checked.Refuse f) b h = h
 
 pub then-second : (a b : Checked) → orElse a b ≡ Checked.Accepted → b ≡ Checked.Accepted
 then-second Checked.Accepted b h = h
-then-second (Checked.Refuse f) b h = no h
-  where
-    no : Checked.Refuse f ≡ Checked.Accepted → b ≡ Checked.Accepted
-    no e = cc
+then-second (Checked.Refuse f) b h = cc
 
 pub both : (a b : Checked) → a ≡ Checked.Accepted → b ≡ Checked.Accepted → orElse a b ≡ Checked.Accepted
 both a b h k = rw h k
@@ -40,6 +37,12 @@ both a b h k = rw h k
 pub unrefused : (t : Bool) (f : Refusal) → refuseIf t f ≡ Checked.Accepted → t ≡ false
 unrefused true f h = cc
 unrefused false f h = refl
+
+pub not-both {ℓ} : {P : Type ℓ} {f : Refusal} → Checked.Refuse f ≡ Checked.Accepted → P
+not-both e = let z : _≡_ {A = ℕ} 0 1 = cc in absurd (no z)
+  where
+    no : _≡_ {A = ℕ} 0 1 → ⊥
+    no e = omega arith
 
 -- ---- fields
 -- as many numbers as widths, each held by its width

@@ -1,14 +1,20 @@
 // A reader stands in the lent file bytes and hands out one record after another: a cursor by value on the bytes.
 ghost use mathlib.Core.Path.{_≡_};
-ghost use Prim.Native.Nat.{ℕ, _+_, _≤_, _<_, _^_};
-ghost use lib.ListN.{length, getD};
+ghost use Prim.Native.Nat.{ℕ, _+_, _*_, _≤_, _<_, _^_};
+ghost use mathlib.Core.List.{map};
+ghost use lib.ListN.{length, getD, drop};
+ghost use lib.Seq.{sets};
+ghost use Rattle.rules.specs.Calls.{Checked};
+ghost use Rattle.rows.specs.View.{tasksOf, resourcesOf};
+ghost use Rattle.entry.specs.Checks.{checkedOf};
 ghost use Rattle.file.specs.declared.Mark.the-variants.{PL, RS, TK};
 ghost use Rattle.file.specs.Format.{mark, size, numbersIn, headerFrom, resourceFrom, taskFrom};
-ghost use Rattle.file.specs.Reading.{marked, cursor, whole, handed, recordAt, sameMark, notDue};
+ghost use Rattle.file.specs.Reading.{marked, cursor, whole, handed, recordAt, sameMark, notDue, through, eachDue, recordsIn, headerDue};
 use crate::Cursor;
 use crate::Header;
 use crate::Mark;
 use crate::Record;
+use crate::Run;
 use crate::fields::day_at;
 use crate::fields::first_byte;
 use crate::fields::id_at;
@@ -16,6 +22,7 @@ use crate::fields::one_at;
 use crate::fields::power_at;
 use crate::fields::second_byte;
 use crate::fields::two_at;
+use entry::Entry;
 use plan::PowerSpan;
 use plan::Refusal;
 use plan::Resource;
@@ -165,4 +172,70 @@ pub fn not_due(k: Mark, at: usize, got: Record) -> Refusal
         Record::Task(_, _) => Refusal::WrongMark(at),
         Record::NoMark => Refusal::WrongMark(at),
     }
+}
+
+// So many records of one mark, one after another: the rows they make, and the cursor past them.
+fn read_resources(file: &[u8], from: Cursor, n: usize, q: &mut [[i64; 2]]) -> Run
+    requires { ⌜ n ≤ length (now q) ⌝ }
+    ensures { λ r. ⌜ r ≡ through (eachDue RS n (from .at) (drop (from .at) (now (file .entry)))) (cursor (from .at + n * size RS)) ⌝ }
+    ensures { λ _. ⌜ (eachDue RS n (from .at) (drop (from .at) (now (file .entry))) ≡ Checked.Accepted → resourcesOf (now (q .exit)) ≡ sets (resourcesOf (now (q .entry))) 0 (map resourceFrom (recordsIn RS n (drop (from .at) (now (file .entry)))))) ⌝ }
+{
+    let mut c = from;
+    let mut i: usize = 0;
+    while i < n {
+        let at = c.at;
+        let got = c.next(file);
+        let Record::Resource(r, past) = got else {
+            return Run::Refused(not_due(Mark::RS, at, got));
+        };
+        rows::put_resource(q, i, r);
+        c = past;
+        i += 1;
+    }
+    Run::Through(c)
+}
+
+fn read_tasks(file: &[u8], from: Cursor, n: usize, s: &mut [[i64; 9]]) -> Run
+    requires { ⌜ n ≤ length (now s) ⌝ }
+    ensures { λ r. ⌜ r ≡ through (eachDue TK n (from .at) (drop (from .at) (now (file .entry)))) (cursor (from .at + n * size TK)) ⌝ }
+    ensures { λ _. ⌜ (eachDue TK n (from .at) (drop (from .at) (now (file .entry))) ≡ Checked.Accepted → tasksOf (now (s .exit)) ≡ sets (tasksOf (now (s .entry))) 0 (map taskFrom (recordsIn TK n (drop (from .at) (now (file .entry)))))) ⌝ }
+{
+    let mut c = from;
+    let mut i: usize = 0;
+    while i < n {
+        let at = c.at;
+        let got = c.next(file);
+        let Record::Task(t, past) = got else {
+            return Run::Refused(not_due(Mark::TK, at, got));
+        };
+        rows::put_task(s, i, t);
+        c = past;
+        i += 1;
+    }
+    Run::Through(c)
+}
+
+// "In PL then, in this order": the sense, the task count, the resource count, the lent lists.
+fn check_header(h: Header, places: usize, room: usize) -> Entry
+    ensures { λ r. ⌜ checkedOf r ≡ headerDue places room h ⌝ }
+{
+    if 1 < h.sense {
+        return Entry::Refused(Refusal::WrongMark(0));
+    }
+    if 256 < h.tasks {
+        return Entry::Refused(Refusal::TooManyTasks);
+    }
+    if h.resources == 0 {
+        return Entry::Refused(Refusal::ResourceCount);
+    }
+    if 16 < h.resources {
+        return Entry::Refused(Refusal::ResourceCount);
+    }
+    if places < h.resources {
+        return Entry::Refused(Refusal::ListShort);
+    }
+    if room < h.tasks {
+        return Entry::Refused(Refusal::ListShort);
+    }
+    Entry::Accepted
 }
