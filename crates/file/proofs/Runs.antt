@@ -8,10 +8,13 @@ use native.Mathlib.Numerals.{add-one}
 use lib.ListN.{length, getD, drop, set, drop-of-length-le}
 use lib.Seq.{drop-cons, drop-drop, sets}
 use Rattle.rules.specs.Calls.{Checked, orElse}
+use Rattle.plan.specs.declared.Refusal.{Refusal}
 use Rattle.file.specs.declared.Mark.{Mark}
+use Rattle.file.specs.declared.Cursor.{Cursor}
+use Rattle.file.specs.declared.Run.{Run}
 use Rattle.file.specs.Format.{widths, size, recordBytes, numbersIn}
 use Rattle.file.specs.Writing.{recordsBytes, Each, nothing, also}
-use Rattle.file.specs.Reading.{due, eachDue, recordsIn}
+use Rattle.file.specs.Reading.{due, eachDue, recordsIn, through}
 use Rattle.file.proofs.Records.{Held, length-record}
 use Rattle.file.proofs.Stores.{sets-append}
 
@@ -63,3 +66,12 @@ module _ (k : Mark) (file : List ℕ) (n : ℕ) where
     pub read-end : (i at : ℕ) → n ≤ i → sets ds i (readFrom f i at) ≡ ds
     unfolding recordsIn
     read-end i at h = let e : n - i ≡ 0 = omega arith in rw e
+
+-- ---- what a run answers
+pub run-refused : (d : Checked) (c : Cursor) {f : Refusal} → through d c ≡ Run.Refused f → d ≡ Checked.Refuse f
+run-refused Checked.Accepted c e = cc
+run-refused (Checked.Refuse g) c e = cc
+
+pub run-past : (d : Checked) (c : Cursor) {p : Cursor} → through d c ≡ Run.Through p → (d ≡ Checked.Accepted) × (p ≡ c)
+run-past Checked.Accepted c e = (refl, cc)
+run-past (Checked.Refuse g) c e = (cc, cc)

@@ -4,12 +4,14 @@ ghost use Prim.Native.Nat.{ℕ, _+_, _*_, _≤_, _<_, _^_};
 ghost use mathlib.Core.List.{map};
 ghost use lib.ListN.{length, getD, drop};
 ghost use lib.Seq.{sets};
-ghost use Rattle.rules.specs.Calls.{Checked};
+ghost use Rattle.rules.specs.Calls.{Checked, orElse, refuseIf};
+ghost use lib.Dec.{ltb};
+ghost use Rattle.plan.specs.declared.Refusal.the-variants.{CutShort};
 ghost use Rattle.rows.specs.View.{tasksOf, resourcesOf};
 ghost use Rattle.entry.specs.Checks.{checkedOf};
 ghost use Rattle.file.specs.declared.Mark.the-variants.{PL, RS, TK};
 ghost use Rattle.file.specs.Format.{mark, size, numbersIn, headerFrom, resourceFrom, taskFrom};
-ghost use Rattle.file.specs.Reading.{marked, cursor, whole, handed, recordAt, sameMark, notDue, through, eachDue, recordsIn, headerDue};
+ghost use Rattle.file.specs.Reading.{marked, cursor, whole, handed, recordAt, sameMark, notDue, through, eachDue, recordsIn, headerDue, bodyDue, resourcesIn, tasksIn};
 use crate::Cursor;
 use crate::Header;
 use crate::Mark;
@@ -238,4 +240,37 @@ fn check_header(h: Header, places: usize, room: usize) -> Entry
         return Entry::Refused(Refusal::ListShort);
     }
     Entry::Accepted
+}
+
+// All TK, and "after the last record, leftover bytes 9".
+fn read_rest(file: &[u8], from: Cursor, n: usize, s: &mut [[i64; 9]]) -> Entry
+    requires { ⌜ n ≤ length (now s) ⌝ }
+    ensures { λ r. ⌜ checkedOf r ≡ orElse (eachDue TK n (from .at) (drop (from .at) (now (file .entry)))) (refuseIf (ltb (from .at + n * size TK) (length (now (file .entry)))) (CutShort (from .at + n * size TK))) ⌝ }
+    ensures { λ _. ⌜ (eachDue TK n (from .at) (drop (from .at) (now (file .entry))) ≡ Checked.Accepted → tasksOf (now (s .exit)) ≡ sets (tasksOf (now (s .entry))) 0 (map taskFrom (recordsIn TK n (drop (from .at) (now (file .entry)))))) ⌝ }
+{
+    let run = read_tasks(file, from, n, s);
+    match run {
+        Run::Refused(f) => Entry::Refused(f),
+        Run::Through(c) => {
+            let at = c.at;
+            if at < file.len() {
+                return Entry::Refused(Refusal::CutShort(at));
+            }
+            Entry::Accepted
+        }
+    }
+}
+
+// All RS, all TK, nothing more.
+fn read_body(file: &[u8], h: Header, q: &mut [[i64; 2]], s: &mut [[i64; 9]]) -> Entry
+    requires { ⌜ (h .resources ≤ length (now q)) × (h .tasks ≤ length (now s)) ⌝ }
+    ensures { λ r. ⌜ checkedOf r ≡ bodyDue h (now (file .entry)) ⌝ }
+    ensures { λ _. ⌜ (bodyDue h (now (file .entry)) ≡ Checked.Accepted → (resourcesOf (now (q .exit)) ≡ sets (resourcesOf (now (q .entry))) 0 (resourcesIn h (now (file .entry)))) × (tasksOf (now (s .exit)) ≡ sets (tasksOf (now (s .entry))) 0 (tasksIn h (now (file .entry))))) ⌝ }
+{
+    let from = Cursor { at: 6 };
+    let run = read_resources(file, from, h.resources, q);
+    match run {
+        Run::Refused(f) => Entry::Refused(f),
+        Run::Through(c) => read_rest(file, c, h.tasks, s),
+    }
 }
