@@ -14,14 +14,15 @@ use Rattle.plan.specs.declared.Task.{Task}
 use Rattle.plan.specs.declared.Resource.{Resource}
 use Rattle.plan.specs.declared.Sense.{Sense}
 use Rattle.plan.specs.declared.Sense.the-variants.{AtMost, AtLeast}
+use Rattle.plan.specs.declared.Refusal.{Refusal}
 use Rattle.plan.specs.declared.Refusal.the-variants.{WrongMark, CutShort, TooManyTasks, ResourceCount, ListShort}
 use Rattle.rules.specs.Calls.{Checked, orElse, refuseIf, check, mostTasks, mostResources}
 use Rattle.file.specs.declared.Mark.{Mark}
 use Rattle.file.specs.declared.Mark.the-variants.{PL, RS, TK}
 use Rattle.file.specs.declared.Header.{Header}
 use Rattle.file.specs.Format.{widths, size, recordBytes, fieldsIn, numbersIn, headerNumbers, headerFrom, resourceNumbers, resourceFrom, taskNumbers, taskFrom, senseNumber, senseFrom}
-use Rattle.file.specs.Writing.{recordsBytes, ResourceSmall, TaskSmall, Each, nothing, also, headerOf, written}
-use Rattle.file.specs.Reading.{due, eachDue, recordsIn, headerIn, tasksFrom, fileEnd, resourcesIn, tasksIn, headerDue, bodyDue, shapeDue, Read, readUnless, readPlan}
+use Rattle.file.specs.Writing.{recordsBytes, ResourceSmall, TaskSmall, Each, nothing, also, headerOf, written, laid}
+use Rattle.file.specs.Reading.{due, eachDue, recordsIn, headerIn, tasksFrom, fileEnd, resourcesIn, tasksIn, headerDue, bodyDue, shapeDue, Read, readUnless, readPlan, Stands}
 use Rattle.file.proofs.Numbers.{AllBytes, room, bytes-drop}
 use Rattle.file.proofs.Stores.{sets-append}
 use Rattle.file.proofs.Records.{Held, none, more, both, then-first, then-second, unrefused, held-fields, length-record, numbers-record, due-record, due-length, record-numbers, length-records, due-records, numbers-records, length-recordsIn, due-total, records-numbers, records-held}
@@ -176,6 +177,17 @@ module _ (sense : Sense) (qs : List Resource) (ts : List Task) (ids : Each Ident
   read-back places space a b = rw (header-is, shape-due places space a b, resources-read, tasks-read, pass) (ap (λ (s : Sense). Read.Plan s qs ts) (sense-back sense))
 
 -- ---- a file that is read
+pub length-resourcesIn : (h : Header) (file : List ℕ) → length (resourcesIn h file) ≡ h .resources
+unfolding resourcesIn
+length-resourcesIn h file =
+    length-map (recordsIn RS (h .resources) (drop 6 file)) resourceFrom ∙ length-recordsIn RS (h .resources) (drop 6 file)
+
+pub length-tasksIn : (h : Header) (file : List ℕ) → length (tasksIn h file) ≡ h .tasks
+unfolding tasksIn
+length-tasksIn h file =
+    length-map (recordsIn TK (h .tasks) (drop (tasksFrom h) file)) taskFrom
+    ∙ length-recordsIn TK (h .tasks) (drop (tasksFrom h) file)
+
 pub read-accepted : (c : Checked) (x : Read) {sense : Sense} {qs : List Resource} {ts : List Task} → readUnless c x ≡ Read.Plan sense qs ts → c ≡ Checked.Accepted
 read-accepted Checked.Accepted x e = refl
 read-accepted (Checked.Refuse f) x e = cc
@@ -184,7 +196,7 @@ pub read-is : (c : Checked) (x : Read) {sense : Sense} {qs : List Resource} {ts 
 read-is Checked.Accepted x e = e
 read-is (Checked.Refuse f) x e = cc
 
-module _ (places space : ℕ) (file : List ℕ) (good : AllBytes file ≡ true) where
+module _ (places space : ℕ) (file : List ℕ) where
   abbrev pub head : Header
   head = headerIn file
 
@@ -247,28 +259,6 @@ module _ (places space : ℕ) (file : List ℕ) (good : AllBytes file ≡ true) 
           take-append-drop 6 file,
         )
 
-    resource-numbers-in : map resourceNumbers (resourcesIn head file) ≡ recordsIn RS (head .resources) (drop 6 file)
-    unfolding resourcesIn
-    resource-numbers-in =
-        map-back resourceFrom resourceNumbers resource-numbers
-        (records-held RS (head .resources) 6 (drop 6 file) rs (bytes-drop 6 file good))
-
-    task-numbers-in : map taskNumbers (tasksIn head file) ≡ recordsIn TK (head .tasks) (drop (tasksFrom head) file)
-    unfolding tasksIn
-    task-numbers-in =
-        map-back taskFrom taskNumbers task-numbers
-        (records-held TK (head .tasks) (tasksFrom head) (drop (tasksFrom head) file) tk (bytes-drop (tasksFrom head) file good))
-
-    length-resources-in : length (resourcesIn head file) ≡ head .resources
-    unfolding resourcesIn
-    length-resources-in = length-map (recordsIn RS (head .resources) (drop 6 file)) resourceFrom ∙ length-recordsIn RS (head .resources) (drop 6 file)
-
-    length-tasks-in : length (tasksIn head file) ≡ head .tasks
-    unfolding tasksIn
-    length-tasks-in =
-        length-map (recordsIn TK (head .tasks) (drop (tasksFrom head) file)) taskFrom
-        ∙ length-recordsIn TK (head .tasks) (drop (tasksFrom head) file)
-
     sense-one : ltb 1 (head .sense) ≡ false
     unfolding headerDue
     sense-one = unrefused (ltb 1 (head .sense)) (WrongMark 0) (then-first (refuseIf (ltb 1 (head .sense)) (WrongMark 0)) rest header-passed)
@@ -285,29 +275,10 @@ module _ (places space : ℕ) (file : List ℕ) (good : AllBytes file ≡ true) 
 
     header-written : headerNumbers (headerOf (senseFrom (head .sense)) (length (resourcesIn head file)) (length (tasksIn head file))) ≡ numbersIn PL file
     unfolding headerNumbers headerOf headerIn headerFrom numbersIn fieldsIn
-    header-written = rw (sense-number (head .sense) sense-one, length-resources-in, length-tasks-in) header-fields
+    header-written = rw (sense-number (head .sense) sense-one, length-resourcesIn head file, length-tasksIn head file) header-fields
       where
         header-fields : head .sense ∷ head .resources ∷ head .tasks ∷ [] ≡ numbersIn PL file
         header-fields = refl
-
-    pub write-back : written (senseFrom (head .sense)) (resourcesIn head file) (tasksIn head file) ≡ file
-    unfolding written headerOf
-    write-back =
-        rw (
-          header-written,
-          resource-numbers-in,
-          task-numbers-in,
-          record-numbers PL 0 file pl good,
-          records-numbers RS (head .resources) 6 (drop 6 file) rs (bytes-drop 6 file good),
-          records-numbers TK (head .tasks) (tasksFrom head) (drop (tasksFrom head) file) tk (bytes-drop (tasksFrom head) file good),
-        )
-        parts
-
-    pub identified : Each Identified (resourcesIn head file)
-    unfolding resourcesIn
-    identified =
-        each-map resourceFrom resource-identified
-        (records-held RS (head .resources) 6 (drop 6 file) rs (bytes-drop 6 file good))
 
     pub enough : (length (resourcesIn head file) ≤ places) × (length (tasksIn head file) ≤ space)
     unfolding headerDue
@@ -318,6 +289,83 @@ module _ (places space : ℕ) (file : List ℕ) (good : AllBytes file ≡ true) 
         let e = then-second counts short (then-second many (orElse counts short)
         (then-second (refuseIf (ltb 1 (head .sense)) (WrongMark 0)) (orElse many (orElse counts short)) header-passed)) in
         let f = unrefused (or (ltb places (head .resources)) (ltb space (head .tasks))) ListShort e in (
-          omega (arith, length-resources-in, ltb-false places (head .resources) (neither-first (ltb places (head .resources)) (ltb space (head .tasks)) f)),
-          omega (arith, length-tasks-in, ltb-false space (head .tasks) (neither-second (ltb places (head .resources)) (ltb space (head .tasks)) f)),
+          omega (arith, length-resourcesIn head file, ltb-false places (head .resources) (neither-first (ltb places (head .resources)) (ltb space (head .tasks)) f)),
+          omega (arith, length-tasksIn head file, ltb-false space (head .tasks) (neither-second (ltb places (head .resources)) (ltb space (head .tasks)) f)),
         )
+
+    module _ (good : AllBytes file ≡ true) where
+      resource-numbers-in : map resourceNumbers (resourcesIn head file) ≡ recordsIn RS (head .resources) (drop 6 file)
+      unfolding resourcesIn
+      resource-numbers-in =
+          map-back resourceFrom resourceNumbers resource-numbers
+          (records-held RS (head .resources) 6 (drop 6 file) rs (bytes-drop 6 file good))
+
+      task-numbers-in : map taskNumbers (tasksIn head file) ≡ recordsIn TK (head .tasks) (drop (tasksFrom head) file)
+      unfolding tasksIn
+      task-numbers-in =
+          map-back taskFrom taskNumbers task-numbers
+          (records-held TK (head .tasks) (tasksFrom head) (drop (tasksFrom head) file) tk (bytes-drop (tasksFrom head) file good))
+
+      pub write-back : written (senseFrom (head .sense)) (resourcesIn head file) (tasksIn head file) ≡ file
+      unfolding written headerOf
+      write-back =
+          rw (
+            header-written,
+            resource-numbers-in,
+            task-numbers-in,
+            record-numbers PL 0 file pl good,
+            records-numbers RS (head .resources) 6 (drop 6 file) rs (bytes-drop 6 file good),
+            records-numbers TK (head .tasks) (tasksFrom head) (drop (tasksFrom head) file) tk (bytes-drop (tasksFrom head) file good),
+          )
+          parts
+
+      pub identified : Each Identified (resourcesIn head file)
+      unfolding resourcesIn
+      identified =
+          each-map resourceFrom resource-identified
+          (records-held RS (head .resources) 6 (drop 6 file) rs (bytes-drop 6 file good))
+
+-- ---- what stands in rows after a file was read into them
+pub stands-not : {x : Read} {f : Refusal} {qs later : List Resource} {ts after : List Task} → x ≡ Read.Refuse f → Stands x qs later ts after
+stands-not e = record { stands = λ g. absurd (no (sym e ∙ g)) }
+  where
+    no : {f : Refusal} {sense : Sense} {rs : List Resource} {us : List Task} → Read.Refuse f ≡ Read.Plan sense rs us → ⊥
+    no e = let z : _≡_ {A = ℕ} 0 1 = cc in omega arith
+
+pub stands-is : {x : Read} {sense : Sense} {rs qs later : List Resource} {us ts after : List Task} → x ≡ Read.Plan sense rs us → later ≡ laid rs qs → after ≡ laid us ts → Stands x qs later ts after
+stands-is {qs} {later} {ts} {after} e p q =
+    record { stands = λ g. let w = same-read (sym e ∙ g) in (p ∙ ap (λ (l : List Resource). laid l qs) (w .1), q ∙ ap (λ (l : List Task). laid l ts) (w .2)) }
+  where
+    same-read : {s r : Sense} {ps ws : List Resource} {us vs : List Task} → Read.Plan s ps us ≡ Read.Plan r ws vs → (s ≡ r) × (ps ≡ ws) × (us ≡ vs)
+    same-read e = (cc, cc, cc)
+
+-- what the header's checks say of its counts
+pub record Few (places space : ℕ) (h : Header) : Type 0 where
+  pub sense : h .sense ≤ 1
+  pub resources : h .resources ≤ 16
+  pub tasks : h .tasks ≤ 256
+  pub listed : h .resources ≤ places
+  pub room : h .tasks ≤ space
+
+pub few : (places space : ℕ) (h : Header) → headerDue places space h ≡ Checked.Accepted → Few places space h
+unfolding headerDue
+few places space h e =
+    let one = refuseIf (ltb 1 (h .sense)) (WrongMark 0) in
+    let many = refuseIf (ltb mostTasks (h .tasks)) TooManyTasks in
+    let none = eqb (h .resources) 0 in
+    let more = ltb mostResources (h .resources) in
+    let count = refuseIf (or none more) ResourceCount in
+    let short = ltb places (h .resources) in
+    let narrow = ltb space (h .tasks) in
+    let lists = refuseIf (or short narrow) ListShort in
+    let p = then-second one (orElse many (orElse count lists)) e in
+    let q = then-second many (orElse count lists) p in
+    let c = unrefused (or none more) ResourceCount (then-first count lists q) in
+    let l = unrefused (or short narrow) ListShort (then-second count lists q) in
+    record {
+      sense = ltb-false 1 (h .sense) (unrefused (ltb 1 (h .sense)) (WrongMark 0) (then-first one (orElse many (orElse count lists)) e));
+      resources = ltb-false mostResources (h .resources) (neither-second none more c);
+      tasks = ltb-false mostTasks (h .tasks) (unrefused (ltb mostTasks (h .tasks)) TooManyTasks (then-first many (orElse count lists) p));
+      listed = ltb-false places (h .resources) (neither-first short narrow l);
+      room = ltb-false space (h .tasks) (neither-second short narrow l)
+    }

@@ -43,12 +43,12 @@ module _ (places space : ℕ) where
         let q : resourcesIn h file ≡ qs = cc in
         let t : tasksIn h file ≡ ts = cc in (
           record {
-            identifiers = rw q at (identified places space file good shape);
+            identifiers = rw q at (identified places space file shape good);
             passes = rw (q, t) at (then-second (shapeDue places space h file) checks ok);
-            resources-fit = rw q at (enough places space file good shape .0);
-            tasks-fit = rw t at (enough places space file good shape .1);
+            resources-fit = rw q at (enough places space file shape .0);
+            tasks-fit = rw t at (enough places space file shape .1);
           },
-          rw (s, q, t) at (write-back places space file good shape),
+          rw (s, q, t) at (write-back places space file shape good),
         )
 
     pub written-accepted : Good places space qs ts × (written sense qs ts ≡ file) → readPlan places space file ≡ Read.Plan sense qs ts

@@ -1,12 +1,14 @@
 -- Runs of stores: one run after another is one run, and a run from the first place is a list laid over another.
 use mathlib.Core.Path.{_≡_, refl, ap, _∙_}
-use mathlib.Core.List.{List, [], _∷_, _++_, append-assoc}
-use Prim.Native.Nat.{ℕ, zero, suc, _+_, _/_, _≤_}
+use mathlib.Core.List.{List, [], _∷_, _++_, map, append-assoc}
+use Prim.Native.Nat.{ℕ, zero, suc, _+_, _/_, _≤_, _<_}
 use native.Mathlib.Omega.{arith}
 use native.Mathlib.Nat.{zero-add, add-zero, add-suc, suc-add, add-assoc}
 use lib.IntN.{ℤ}
-use lib.ListN.{length, drop, set, length-append}
-use lib.Seq.{sets, sets-eq}
+use native.Mathlib.Numerals.{add-one}
+use lib.ListN.{length, getD, take, drop, set, length-append, length-take, drop-of-length-le}
+use lib.Seq.{sets, sets-eq, take-at, drop-cons, getD-take}
+use Rattle.rows.proofs.View.{map-set}
 use Rattle.plan.specs.declared.Task.{Task}
 use Rattle.plan.specs.declared.Resource.{Resource}
 use Rattle.file.specs.declared.Header.{Header}
@@ -23,6 +25,21 @@ module _ {A : Type 0} where
 
   pub sets-laid : (xs ds : List A) → length xs ≤ length ds → sets ds 0 xs ≡ laid xs ds
   sets-laid xs ds h = sets-eq xs ds 0 (rw (zero-add (length xs)) h) ∙ rw (zero-add (length xs))
+
+  pub taken : (n : ℕ) (xs ds : List A) → length xs ≡ n → n ≤ length ds → take n (sets ds 0 xs) ≡ xs
+  taken n xs ds e h = rw (sets-laid xs ds (omega arith)) (take-at xs (drop (length xs) ds) n e)
+
+  -- the first n of one list, copied one by one
+  pub copy-step : (d : A) (from to : List A) (n i : ℕ) → i < n → n ≤ length from → sets to i (drop i (take n from)) ≡ sets (set to i (getD from i d)) (i + 1) (drop (i + 1) (take n from))
+  copy-step d from to n i h k =
+      rw (add-one i, drop-cons (take n from) i d (omega (arith, length-take n from)), getD-take n from i d h)
+
+  pub copy-end : (from to : List A) (n i : ℕ) → n ≤ i → sets to i (drop i (take n from)) ≡ to
+  copy-end from to n i h = rw (drop-of-length-le (take n from) {i = i} (omega (arith, length-take n from)))
+
+pub map-sets : {A B : Type 0} (f : A → B) (l : List A) (i : ℕ) (xs : List A) → map f (sets l i xs) ≡ sets (map f l) i (map f xs)
+map-sets f l i [] = refl
+map-sets f l i (x ∷ xs) = rw (map-sets f (set l i x) (suc i) xs, map-set f l i x)
 
 -- a number's low bytes stored, then its high bytes
 pub put-parts : (m k : ℕ) (l : List ℕ) (at x : ℕ) → sets l at (bytesOf (m + k) x) ≡ sets (sets l at (bytesOf m x)) (at + m) (bytesOf k (x / room m))

@@ -1,5 +1,6 @@
 -- What is read, and every refusal of a file in the page's order; what the reader hands out at a place; what the reading call answers
 -- and leaves.
+use mathlib.Core.Path.{_≡_}
 use mathlib.Core.List.{List, [], _∷_, _++_, map}
 use mathlib.Core.Bool.{Bool, true, false, not}
 use Prim.Native.Nat.{ℕ, zero, suc, _+_, _*_}
@@ -87,6 +88,12 @@ abbrev pub readUnless : Checked → Read → Read
 readUnless Checked.Accepted x = x
 readUnless (Checked.Refuse f) x = Refuse f
 
+-- a file after its PL record
+unfoldable pub readAfter : Header → List ℕ → Read
+readAfter h file =
+    readUnless (orElse (bodyDue h file) (check (resourcesIn h file) (tasksIn h file)))
+    (Plan (senseFrom (h .sense)) (resourcesIn h file) (tasksIn h file))
+
 -- "then 3 to 6"
 unfoldable pub readPlan : ℕ → ℕ → List ℕ → Read
 readPlan places room file =
@@ -100,14 +107,25 @@ pub record ReadResult : Type 0 where
   pub resources : List Resource
   pub tasks : List Task
 
+abbrev pub readResult : ReadAnswer → List Resource → List Task → ReadResult
+readResult r qs ts = record { answer = r; resources = qs; tasks = ts }
+
+-- the sense and the two counts, or the refusal
+abbrev pub readAnswer : Read → ReadAnswer
+readAnswer (Plan sense rs us) = ReadAnswer.Plan sense (length rs) (length us)
+readAnswer (Refuse f) = ReadAnswer.Refused f
+
 -- "On success the reader writes the first places only and later ones stay"; on a refusal all stay
 abbrev pub readInto : Read → List Resource → List Task → ReadResult
-readInto (Plan sense rs us) qs ts =
-    record { answer = ReadAnswer.Plan sense (length rs) (length us); resources = laid rs qs; tasks = laid us ts }
-readInto (Refuse f) qs ts = record { answer = ReadAnswer.Refused f; resources = qs; tasks = ts }
+readInto (Plan sense rs us) qs ts = readResult (readAnswer (Plan sense rs us)) (laid rs qs) (laid us ts)
+readInto (Refuse f) qs ts = readResult (readAnswer (Refuse f)) qs ts
 
 unfoldable pub readCall : List ℕ → List Resource → List Task → ReadResult
 readCall file qs ts = readInto (readPlan (length qs) (length ts) file) qs ts
+
+-- a plan that was read stands in the first places of these lists
+pub record Stands (x : Read) (qs later : List Resource) (ts after : List Task) : Type 0 where
+  pub stands : {sense : Sense} {rs : List Resource} {us : List Task} → x ≡ Plan sense rs us → (later ≡ laid rs qs) × (after ≡ laid us ts)
 
 -- ---- what the reader hands out at a place, and over a run of records
 abbrev pub cursor : ℕ → Cursor

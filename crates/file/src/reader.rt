@@ -2,19 +2,20 @@
 ghost use mathlib.Core.Path.{_≡_};
 ghost use Prim.Native.Nat.{ℕ, _+_, _*_, _≤_, _<_, _^_};
 ghost use mathlib.Core.List.{map};
-ghost use lib.ListN.{length, getD, drop};
+ghost use lib.ListN.{length, getD, take, drop};
 ghost use lib.Seq.{sets};
-ghost use Rattle.rules.specs.Calls.{Checked, orElse, refuseIf};
+ghost use Rattle.rules.specs.Calls.{Checked, orElse, refuseIf, mostResources, mostTasks};
 ghost use lib.Dec.{ltb};
 ghost use Rattle.plan.specs.declared.Refusal.the-variants.{CutShort};
 ghost use Rattle.rows.specs.View.{tasksOf, resourcesOf};
 ghost use Rattle.entry.specs.Checks.{checkedOf};
 ghost use Rattle.file.specs.declared.Mark.the-variants.{PL, RS, TK};
-ghost use Rattle.file.specs.Format.{mark, size, numbersIn, headerFrom, resourceFrom, taskFrom};
-ghost use Rattle.file.specs.Reading.{marked, cursor, whole, handed, recordAt, sameMark, notDue, through, eachDue, recordsIn, headerDue, bodyDue, resourcesIn, tasksIn};
+ghost use Rattle.file.specs.Format.{mark, size, numbersIn, headerFrom, resourceFrom, taskFrom, senseFrom};
+ghost use Rattle.file.specs.Reading.{marked, cursor, whole, handed, recordAt, sameMark, notDue, through, eachDue, recordsIn, headerDue, bodyDue, resourcesIn, tasksIn, readAfter, readPlan, readAnswer, Stands};
 use crate::Cursor;
 use crate::Header;
 use crate::Mark;
+use crate::ReadAnswer;
 use crate::Record;
 use crate::Run;
 use crate::fields::day_at;
@@ -28,6 +29,7 @@ use entry::Entry;
 use plan::PowerSpan;
 use plan::Refusal;
 use plan::Resource;
+use plan::Sense;
 use plan::Span;
 use plan::Task;
 
@@ -272,5 +274,75 @@ fn read_body(file: &[u8], h: Header, q: &mut [[i64; 2]], s: &mut [[i64; 9]]) -> 
     match run {
         Run::Refused(f) => Entry::Refused(f),
         Run::Through(c) => read_rest(file, c, h.tasks, s),
+    }
+}
+
+fn sense_of(b: u8) -> Sense
+    ensures { λ r. ⌜ r ≡ senseFrom b ⌝ }
+{
+    if b == 0 { Sense::AtMost } else { Sense::AtLeast }
+}
+
+// The body, "then 3 to 6", over rows with places enough.
+fn read_after(file: &[u8], h: Header, q: &mut [[i64; 2]], s: &mut [[i64; 9]]) -> ReadAnswer
+    requires { ⌜ (h .resources ≤ length (now q)) × (h .tasks ≤ length (now s)) ⌝ }
+    ensures { λ r. ⌜ r ≡ readAnswer (readAfter h (now (file .entry))) ⌝ }
+    ensures { λ _. ⌜ Stands (readAfter h (now (file .entry))) (resourcesOf (now (q .entry))) (resourcesOf (now (q .exit))) (tasksOf (now (s .entry))) (tasksOf (now (s .exit))) ⌝ }
+{
+    let body = read_body(file, h, q, s);
+    match body {
+        Entry::Refused(f) => ReadAnswer::Refused(f),
+        Entry::Accepted => {
+            let n = h.resources;
+            let m = h.tasks;
+            let contents = entry::check(&q[..n], &s[..m]);
+            match contents {
+                Entry::Refused(f) => ReadAnswer::Refused(f),
+                Entry::Accepted => ReadAnswer::Plan(sense_of(h.sense), n, m),
+            }
+        }
+    }
+}
+
+// The plan of a file, into rows of our own: nothing lent is touched before the file is known to be whole.
+pub fn read_plan(file: &[u8], places: usize, room: usize, q: &mut [[i64; 2]], s: &mut [[i64; 9]]) -> ReadAnswer
+    requires { ⌜ (mostResources ≤ length (now q)) × (mostTasks ≤ length (now s)) ⌝ }
+    ensures { λ r. ⌜ r ≡ readAnswer (readPlan places room (now (file .entry))) ⌝ }
+    ensures { λ _. ⌜ Stands (readPlan places room (now (file .entry))) (resourcesOf (now (q .entry))) (resourcesOf (now (q .exit))) (tasksOf (now (s .entry))) (tasksOf (now (s .exit))) ⌝ }
+{
+    let start = Cursor { at: 0 };
+    let got = start.next(file);
+    let Record::Plan(h, _) = got else {
+        return ReadAnswer::Refused(not_due(Mark::PL, 0, got));
+    };
+    let checked = check_header(h, places, room);
+    match checked {
+        Entry::Refused(f) => ReadAnswer::Refused(f),
+        Entry::Accepted => read_after(file, h, q, s),
+    }
+}
+
+// The first n rows of one list into another.
+pub fn copy_resources(n: usize, from: &[[i64; 2]], to: &mut [[i64; 2]])
+    requires { ⌜ (n ≤ length (now from)) × (n ≤ length (now to)) ⌝ }
+    ensures { λ _. ⌜ now (to .exit) ≡ sets (now (to .entry)) 0 (take n (now (from .entry))) ⌝ }
+{
+    let mut i: usize = 0;
+    while i < n {
+        let r = from[i];
+        to[i] = r;
+        i += 1;
+    }
+}
+
+pub fn copy_tasks(n: usize, from: &[[i64; 9]], to: &mut [[i64; 9]])
+    requires { ⌜ (n ≤ length (now from)) × (n ≤ length (now to)) ⌝ }
+    ensures { λ _. ⌜ now (to .exit) ≡ sets (now (to .entry)) 0 (take n (now (from .entry))) ⌝ }
+{
+    let mut i: usize = 0;
+    while i < n {
+        let r = from[i];
+        to[i] = r;
+        i += 1;
     }
 }
