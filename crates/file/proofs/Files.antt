@@ -6,6 +6,7 @@ use Prim.Native.Nat.{ℕ, zero, suc, _+_, _*_, _≤_, _<_}
 use native.Mathlib.Omega.{arith}
 use native.Mathlib.Nat.{zero-add}
 use lib.Dec.{eqb, ltb}
+use lib.IntN.{ℤ}
 use lib.ListN.{length, take, drop, length-append, length-drop, length-map, take-append-drop}
 use lib.Seq.{drop-at, drop-drop, take-all, sets}
 use borrow.Author.Tests.{le-ltb, ne-eqb, ltb-false}
@@ -16,15 +17,17 @@ use Rattle.plan.specs.declared.Sense.{Sense}
 use Rattle.plan.specs.declared.Sense.the-variants.{AtMost, AtLeast}
 use Rattle.plan.specs.declared.Refusal.{Refusal}
 use Rattle.plan.specs.declared.Refusal.the-variants.{WrongMark, CutShort, TooManyTasks, ResourceCount, ListShort}
+use Rattle.rows.specs.View.{taskOf, tasksOf, resourceOf, resourcesOf}
 use Rattle.rules.specs.Calls.{Checked, orElse, refuseIf, check, mostTasks, mostResources}
 use Rattle.file.specs.declared.Mark.{Mark}
 use Rattle.file.specs.declared.Mark.the-variants.{PL, RS, TK}
 use Rattle.file.specs.declared.Header.{Header}
+use Rattle.file.specs.declared.ReadAnswer.{ReadAnswer}
 use Rattle.file.specs.Format.{widths, size, recordBytes, fieldsIn, numbersIn, headerNumbers, headerFrom, resourceNumbers, resourceFrom, taskNumbers, taskFrom, senseNumber, senseFrom}
 use Rattle.file.specs.Writing.{recordsBytes, ResourceSmall, TaskSmall, Each, nothing, also, headerOf, written, laid}
-use Rattle.file.specs.Reading.{due, eachDue, recordsIn, headerIn, tasksFrom, fileEnd, resourcesIn, tasksIn, headerDue, bodyDue, shapeDue, Read, readUnless, readPlan, Stands}
+use Rattle.file.specs.Reading.{due, eachDue, recordsIn, headerIn, tasksFrom, fileEnd, resourcesIn, tasksIn, headerDue, bodyDue, shapeDue, Read, readUnless, readPlan, readAnswer, readResult, readInto, Stands}
 use Rattle.file.proofs.Numbers.{AllBytes, room, bytes-drop}
-use Rattle.file.proofs.Stores.{sets-append}
+use Rattle.file.proofs.Stores.{sets-append, copied}
 use Rattle.file.proofs.Records.{Held, none, more, both, then-first, then-second, unrefused, held-fields, length-record, numbers-record, due-record, due-length, record-numbers, length-records, due-records, numbers-records, length-recordsIn, due-total, records-numbers, records-held}
 use Rattle.file.proofs.Passed.{neither-first, neither-second, Identified, Passed, passed, resource-held, resource-back, task-held, task-back, resource-numbers, task-numbers, resource-identified}
 
@@ -177,6 +180,37 @@ module _ (sense : Sense) (qs : List Resource) (ts : List Task) (ids : Each Ident
   read-back places space a b = rw (header-is, shape-due places space a b, resources-read, tasks-read, pass) (ap (λ (s : Sense). Read.Plan s qs ts) (sense-back sense))
 
 -- ---- a file that is read
+-- what the header's checks say of its counts
+pub record Few (places space : ℕ) (h : Header) : Type 0 where
+  pub sense : h .sense ≤ 1
+  pub resources : h .resources ≤ 16
+  pub tasks : h .tasks ≤ 256
+  pub listed : h .resources ≤ places
+  pub room : h .tasks ≤ space
+
+pub few : (places space : ℕ) (h : Header) → headerDue places space h ≡ Checked.Accepted → Few places space h
+unfolding headerDue
+few places space h e =
+    let one = refuseIf (ltb 1 (h .sense)) (WrongMark 0) in
+    let many = refuseIf (ltb mostTasks (h .tasks)) TooManyTasks in
+    let none = eqb (h .resources) 0 in
+    let more = ltb mostResources (h .resources) in
+    let count = refuseIf (or none more) ResourceCount in
+    let short = ltb places (h .resources) in
+    let narrow = ltb space (h .tasks) in
+    let lists = refuseIf (or short narrow) ListShort in
+    let p = then-second one (orElse many (orElse count lists)) e in
+    let q = then-second many (orElse count lists) p in
+    let c = unrefused (or none more) ResourceCount (then-first count lists q) in
+    let l = unrefused (or short narrow) ListShort (then-second count lists q) in
+    record {
+      sense = ltb-false 1 (h .sense) (unrefused (ltb 1 (h .sense)) (WrongMark 0) (then-first one (orElse many (orElse count lists)) e));
+      resources = ltb-false mostResources (h .resources) (neither-second none more c);
+      tasks = ltb-false mostTasks (h .tasks) (unrefused (ltb mostTasks (h .tasks)) TooManyTasks (then-first many (orElse count lists) p));
+      listed = ltb-false places (h .resources) (neither-first short narrow l);
+      room = ltb-false space (h .tasks) (neither-second short narrow l)
+    }
+
 pub length-resourcesIn : (h : Header) (file : List ℕ) → length (resourcesIn h file) ≡ h .resources
 unfolding resourcesIn
 length-resourcesIn h file =
@@ -259,39 +293,22 @@ module _ (places space : ℕ) (file : List ℕ) where
           take-append-drop 6 file,
         )
 
-    sense-one : ltb 1 (head .sense) ≡ false
-    unfolding headerDue
-    sense-one = unrefused (ltb 1 (head .sense)) (WrongMark 0) (then-first (refuseIf (ltb 1 (head .sense)) (WrongMark 0)) rest header-passed)
-      where
-        rest : Checked
-        rest =
-            orElse (refuseIf (ltb mostTasks (head .tasks)) TooManyTasks)
-            (orElse (refuseIf (or (eqb (head .resources) 0) (ltb mostResources (head .resources))) ResourceCount)
-            (refuseIf (or (ltb places (head .resources)) (ltb space (head .tasks))) ListShort))
+    counts : Few places space head
+    counts = few places space head header-passed
 
-    sense-number : (n : ℕ) → ltb 1 n ≡ false → senseNumber (senseFrom n) ≡ n
+    sense-number : (n : ℕ) → n ≤ 1 → senseNumber (senseFrom n) ≡ n
     sense-number zero e = refl
-    sense-number (suc n) e = omega (arith, ltb-false 1 (suc n) e)
+    sense-number (suc n) e = omega arith
 
     header-written : headerNumbers (headerOf (senseFrom (head .sense)) (length (resourcesIn head file)) (length (tasksIn head file))) ≡ numbersIn PL file
     unfolding headerNumbers headerOf headerIn headerFrom numbersIn fieldsIn
-    header-written = rw (sense-number (head .sense) sense-one, length-resourcesIn head file, length-tasksIn head file) header-fields
+    header-written = rw (sense-number (head .sense) (counts .sense), length-resourcesIn head file, length-tasksIn head file) header-fields
       where
         header-fields : head .sense ∷ head .resources ∷ head .tasks ∷ [] ≡ numbersIn PL file
         header-fields = refl
 
     pub enough : (length (resourcesIn head file) ≤ places) × (length (tasksIn head file) ≤ space)
-    unfolding headerDue
-    enough =
-        let counts = refuseIf (or (eqb (head .resources) 0) (ltb mostResources (head .resources))) ResourceCount in
-        let short = refuseIf (or (ltb places (head .resources)) (ltb space (head .tasks))) ListShort in
-        let many = refuseIf (ltb mostTasks (head .tasks)) TooManyTasks in
-        let e = then-second counts short (then-second many (orElse counts short)
-        (then-second (refuseIf (ltb 1 (head .sense)) (WrongMark 0)) (orElse many (orElse counts short)) header-passed)) in
-        let f = unrefused (or (ltb places (head .resources)) (ltb space (head .tasks))) ListShort e in (
-          omega (arith, length-resourcesIn head file, ltb-false places (head .resources) (neither-first (ltb places (head .resources)) (ltb space (head .tasks)) f)),
-          omega (arith, length-tasksIn head file, ltb-false space (head .tasks) (neither-second (ltb places (head .resources)) (ltb space (head .tasks)) f)),
-        )
+    enough = (omega (arith, length-resourcesIn head file, counts .listed), omega (arith, length-tasksIn head file, counts .room))
 
     module _ (good : AllBytes file ≡ true) where
       resource-numbers-in : map resourceNumbers (resourcesIn head file) ≡ recordsIn RS (head .resources) (drop 6 file)
@@ -325,47 +342,92 @@ module _ (places space : ℕ) (file : List ℕ) where
           each-map resourceFrom resource-identified
           (records-held RS (head .resources) 6 (drop 6 file) rs (bytes-drop 6 file good))
 
+same-read : {s r : Sense} {ps ws : List Resource} {us vs : List Task} → Read.Plan s ps us ≡ Read.Plan r ws vs → (s ≡ r) × (ps ≡ ws) × (us ≡ vs)
+same-read e = (cc, cc, cc)
+
+same-answer : {s r : Sense} {n m k l : ℕ} → ReadAnswer.Plan s n m ≡ ReadAnswer.Plan r k l → (s ≡ r) × (n ≡ k) × (m ≡ l)
+same-answer e = (cc, cc, cc)
+
+never : {f : Refusal} {s : Sense} {n m : ℕ} → ReadAnswer.Refused f ≡ ReadAnswer.Plan s n m → ⊥
+never e = let z : _≡_ {A = ℕ} 0 1 = cc in omega arith
+
 -- ---- what stands in rows after a file was read into them
-pub stands-not : {x : Read} {f : Refusal} {qs later : List Resource} {ts after : List Task} → x ≡ Read.Refuse f → Stands x qs later ts after
+pub stands-not : {x : Read} {f : Refusal} {later : List Resource} {after : List Task} → x ≡ Read.Refuse f → Stands x later after
 stands-not e = record { stands = λ g. absurd (no (sym e ∙ g)) }
   where
     no : {f : Refusal} {sense : Sense} {rs : List Resource} {us : List Task} → Read.Refuse f ≡ Read.Plan sense rs us → ⊥
     no e = let z : _≡_ {A = ℕ} 0 1 = cc in omega arith
 
-pub stands-is : {x : Read} {sense : Sense} {rs qs later : List Resource} {us ts after : List Task} → x ≡ Read.Plan sense rs us → later ≡ laid rs qs → after ≡ laid us ts → Stands x qs later ts after
-stands-is {qs} {later} {ts} {after} e p q =
-    record { stands = λ g. let w = same-read (sym e ∙ g) in (p ∙ ap (λ (l : List Resource). laid l qs) (w .1), q ∙ ap (λ (l : List Task). laid l ts) (w .2)) }
-  where
-    same-read : {s r : Sense} {ps ws : List Resource} {us vs : List Task} → Read.Plan s ps us ≡ Read.Plan r ws vs → (s ≡ r) × (ps ≡ ws) × (us ≡ vs)
-    same-read e = (cc, cc, cc)
-
--- what the header's checks say of its counts
-pub record Few (places space : ℕ) (h : Header) : Type 0 where
-  pub sense : h .sense ≤ 1
-  pub resources : h .resources ≤ 16
-  pub tasks : h .tasks ≤ 256
-  pub listed : h .resources ≤ places
-  pub room : h .tasks ≤ space
-
-pub few : (places space : ℕ) (h : Header) → headerDue places space h ≡ Checked.Accepted → Few places space h
-unfolding headerDue
-few places space h e =
-    let one = refuseIf (ltb 1 (h .sense)) (WrongMark 0) in
-    let many = refuseIf (ltb mostTasks (h .tasks)) TooManyTasks in
-    let none = eqb (h .resources) 0 in
-    let more = ltb mostResources (h .resources) in
-    let count = refuseIf (or none more) ResourceCount in
-    let short = ltb places (h .resources) in
-    let narrow = ltb space (h .tasks) in
-    let lists = refuseIf (or short narrow) ListShort in
-    let p = then-second one (orElse many (orElse count lists)) e in
-    let q = then-second many (orElse count lists) p in
-    let c = unrefused (or none more) ResourceCount (then-first count lists q) in
-    let l = unrefused (or short narrow) ListShort (then-second count lists q) in
+pub stands-is : {x : Read} {sense : Sense} {rs later : List Resource} {us after : List Task} → x ≡ Read.Plan sense rs us → take (length rs) later ≡ rs → take (length us) after ≡ us → Stands x later after
+stands-is {later} {after} e p q =
     record {
-      sense = ltb-false 1 (h .sense) (unrefused (ltb 1 (h .sense)) (WrongMark 0) (then-first one (orElse many (orElse count lists)) e));
-      resources = ltb-false mostResources (h .resources) (neither-second none more c);
-      tasks = ltb-false mostTasks (h .tasks) (unrefused (ltb mostTasks (h .tasks)) TooManyTasks (then-first many (orElse count lists) p));
-      listed = ltb-false places (h .resources) (neither-first short narrow l);
-      room = ltb-false space (h .tasks) (neither-second short narrow l)
+      stands = λ g.
+        let w = same-read (sym e ∙ g) in
+        (subst (λ (l : List Resource). take (length l) later ≡ l) (w .1) p, subst (λ (l : List Task). take (length l) after ≡ l) (w .2) q)
     }
+
+-- ---- what an answer tells of the plan behind it
+pub record Told (places space : ℕ) (file : List ℕ) (sense : Sense) (n m : ℕ) : Type 0 where
+  pub resources : List Resource
+  pub tasks : List Task
+  pub is : readPlan places space file ≡ Read.Plan sense resources tasks
+  pub counted : (n ≡ length resources) × (m ≡ length tasks)
+  pub few-resources : (n ≤ 16) × (n ≤ places)
+  pub few-tasks : (m ≤ 256) × (m ≤ space)
+
+module _ (places space : ℕ) (file : List ℕ) where
+  bounds : {sense : Sense} {rs : List Resource} {us : List Task} → readPlan places space file ≡ Read.Plan sense rs us → ((length rs ≤ 16) × (length rs ≤ places)) × ((length us ≤ 256) × (length us ≤ space))
+  unfolding readPlan
+  bounds {sense} {rs} {us} e =
+      let h = headerIn file in
+      let plan = Read.Plan (senseFrom (h .sense)) (resourcesIn h file) (tasksIn h file) in
+      let checks = check (resourcesIn h file) (tasksIn h file) in
+      let due = orElse (shapeDue places space h file) checks in
+      let f = counts places space file (then-first (shapeDue places space h file) checks (read-accepted due plan e)) in
+      let w = same-read (read-is due plan e) in
+      let r = ap length (w .1) in
+      let t = ap length (w .2) in
+      ((omega (arith, length-resourcesIn h file, f .resources), omega (arith, length-resourcesIn h file, f .listed)),
+        (omega (arith, length-tasksIn h file, f .tasks), omega (arith, length-tasksIn h file, f .room)))
+
+  told-by : {sense : Sense} {n m : ℕ} (x : Read) → readPlan places space file ≡ x → readAnswer x ≡ ReadAnswer.Plan sense n m → Told places space file sense n m
+  told-by {sense} {n} {m} (Read.Plan s rs us) e g =
+      let w = same-answer g in
+      let b = bounds e in
+      record {
+        resources = rs;
+        tasks = us;
+        is = e ∙ ap (λ (t : Sense). Read.Plan t rs us) (w .0);
+        counted = (sym (w .1), sym (w .2));
+        few-resources = (omega (arith, w .1, b .0 .0), omega (arith, w .1, b .0 .1));
+        few-tasks = (omega (arith, w .2, b .1 .0), omega (arith, w .2, b .1 .1))
+      }
+  told-by (Read.Refuse f) e g = absurd (never g)
+
+  pub told : {sense : Sense} {n m : ℕ} → readAnswer (readPlan places space file) ≡ ReadAnswer.Plan sense n m → Told places space file sense n m
+  told g = told-by (readPlan places space file) refl g
+
+  refused-by : {f : Refusal} (x : Read) → readAnswer x ≡ ReadAnswer.Refused f → x ≡ Read.Refuse f
+  refused-by (Read.Plan s rs us) g = cc
+  refused-by (Read.Refuse f) g = cc
+
+  pub refused : {f : Refusal} → readAnswer (readPlan places space file) ≡ ReadAnswer.Refused f → readPlan places space file ≡ Read.Refuse f
+  refused g = refused-by (readPlan places space file) g
+
+-- the answer and the lists laid over are what the call is to give
+pub read-lays : {places space : ℕ} {file : List ℕ} {sense : Sense} {n m : ℕ} (t : Told places space file sense n m) (qs : List Resource) (ts : List Task) {later : List Resource} {after : List Task} → later ≡ laid (t .resources) qs → after ≡ laid (t .tasks) ts → readResult (ReadAnswer.Plan sense n m) later after ≡ readInto (readPlan places space file) qs ts
+read-lays {sense} {n} {m} t qs ts {later} {after} p q =
+    ap (λ (k : ℕ). readResult (ReadAnswer.Plan sense k m) later after) (t .counted .0)
+    ∙ ap (λ (k : ℕ). readResult (ReadAnswer.Plan sense (length (t .resources)) k) later after) (t .counted .1)
+    ∙ ap (λ (l : List Resource). readResult (readAnswer (Read.Plan sense (t .resources) (t .tasks))) l after) p
+    ∙ ap (λ (l : List Task). readResult (readAnswer (Read.Plan sense (t .resources) (t .tasks))) (laid (t .resources) qs) l) q
+    ∙ sym (ap (λ (x : Read). readInto x qs ts) (t .is))
+
+-- ---- the first places copied, seen as resources and as tasks
+pub resources-copied : (xs : List Resource) (n : ℕ) (from to : List (List ℤ)) {last : List (List ℤ)} → take (length xs) (resourcesOf from) ≡ xs → n ≡ length xs → length xs ≤ length to → last ≡ sets to 0 (take n from) → resourcesOf last ≡ laid xs (resourcesOf to)
+unfolding resourcesOf
+resources-copied = copied resourceOf
+
+pub tasks-copied : (xs : List Task) (n : ℕ) (from to : List (List ℤ)) {last : List (List ℤ)} → take (length xs) (tasksOf from) ≡ xs → n ≡ length xs → length xs ≤ length to → last ≡ sets to 0 (take n from) → tasksOf last ≡ laid xs (tasksOf to)
+unfolding tasksOf
+tasks-copied = copied taskOf

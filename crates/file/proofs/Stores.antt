@@ -1,14 +1,14 @@
 -- Runs of stores: one run after another is one run, and a run from the first place is a list laid over another.
-use mathlib.Core.Path.{_≡_, refl, ap, _∙_}
+use mathlib.Core.Path.{_≡_, refl, sym, ap, _∙_}
 use mathlib.Core.List.{List, [], _∷_, _++_, map, append-assoc}
 use Prim.Native.Nat.{ℕ, zero, suc, _+_, _/_, _≤_, _<_}
 use native.Mathlib.Omega.{arith}
 use native.Mathlib.Nat.{zero-add, add-zero, add-suc, suc-add, add-assoc}
 use lib.IntN.{ℤ}
 use native.Mathlib.Numerals.{add-one}
-use lib.ListN.{length, getD, take, drop, set, length-append, length-take, drop-of-length-le}
+use lib.ListN.{length, getD, take, drop, set, length-append, length-map, length-take, drop-of-length-le}
 use lib.Seq.{sets, sets-eq, take-at, drop-cons, getD-take}
-use Rattle.rows.proofs.View.{map-set}
+use Rattle.rows.proofs.View.{map-set, map-take}
 use Rattle.plan.specs.declared.Task.{Task}
 use Rattle.plan.specs.declared.Resource.{Resource}
 use Rattle.file.specs.declared.Header.{Header}
@@ -40,6 +40,14 @@ module _ {A : Type 0} where
 pub map-sets : {A B : Type 0} (f : A → B) (l : List A) (i : ℕ) (xs : List A) → map f (sets l i xs) ≡ sets (map f l) i (map f xs)
 map-sets f l i [] = refl
 map-sets f l i (x ∷ xs) = rw (map-sets f (set l i x) (suc i) xs, map-set f l i x)
+
+-- the first places of one list copied over another, seen through f
+pub copied : {A B : Type 0} (f : A → B) (xs : List B) (n : ℕ) (from to : List A) {last : List A} → take (length xs) (map f from) ≡ xs → n ≡ length xs → length xs ≤ length to → last ≡ sets to 0 (take n from) → map f last ≡ laid xs (map f to)
+copied f xs n from to stands e h g =
+    ap (map f) g
+    ∙ map-sets f to 0 (take n from)
+    ∙ ap (sets (map f to) 0) (map-take f n from ∙ ap (λ (k : ℕ). take k (map f from)) e ∙ stands)
+    ∙ sets-laid xs (map f to) (rw (length-map to f) h)
 
 -- a number's low bytes stored, then its high bytes
 pub put-parts : (m k : ℕ) (l : List ℕ) (at x : ℕ) → sets l at (bytesOf (m + k) x) ≡ sets (sets l at (bytesOf m x)) (at + m) (bytesOf k (x / room m))

@@ -5,7 +5,7 @@ use mathlib.Core.List.{List, [], _∷_, _++_, map}
 use mathlib.Core.Bool.{Bool, true, false, not}
 use Prim.Native.Nat.{ℕ, zero, suc, _+_, _*_}
 use lib.Dec.{eqb, ltb}
-use lib.ListN.{length, getD, drop}
+use lib.ListN.{length, getD, take, drop}
 use Rattle.integers.specs.Tests.{if, and, or}
 use Rattle.plan.specs.declared.Task.{Task}
 use Rattle.plan.specs.declared.Resource.{Resource}
@@ -124,8 +124,8 @@ unfoldable pub readCall : List ℕ → List Resource → List Task → ReadResul
 readCall file qs ts = readInto (readPlan (length qs) (length ts) file) qs ts
 
 -- a plan that was read stands in the first places of these lists
-pub record Stands (x : Read) (qs later : List Resource) (ts after : List Task) : Type 0 where
-  pub stands : {sense : Sense} {rs : List Resource} {us : List Task} → x ≡ Plan sense rs us → (later ≡ laid rs qs) × (after ≡ laid us ts)
+pub record Stands (x : Read) (later : List Resource) (after : List Task) : Type 0 where
+  pub stands : {sense : Sense} {rs : List Resource} {us : List Task} → x ≡ Plan sense rs us → (take (length rs) later ≡ rs) × (take (length us) after ≡ us)
 
 -- ---- what the reader hands out at a place, and over a run of records
 abbrev pub cursor : ℕ → Cursor

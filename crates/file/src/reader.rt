@@ -287,7 +287,7 @@ fn sense_of(b: u8) -> Sense
 fn read_after(file: &[u8], h: Header, q: &mut [[i64; 2]], s: &mut [[i64; 9]]) -> ReadAnswer
     requires { ⌜ (h .resources ≤ length (now q)) × (h .tasks ≤ length (now s)) ⌝ }
     ensures { λ r. ⌜ r ≡ readAnswer (readAfter h (now (file .entry))) ⌝ }
-    ensures { λ _. ⌜ Stands (readAfter h (now (file .entry))) (resourcesOf (now (q .entry))) (resourcesOf (now (q .exit))) (tasksOf (now (s .entry))) (tasksOf (now (s .exit))) ⌝ }
+    ensures { λ _. ⌜ Stands (readAfter h (now (file .entry))) (resourcesOf (now (q .exit))) (tasksOf (now (s .exit))) ⌝ }
 {
     let body = read_body(file, h, q, s);
     match body {
@@ -308,7 +308,7 @@ fn read_after(file: &[u8], h: Header, q: &mut [[i64; 2]], s: &mut [[i64; 9]]) ->
 pub fn read_plan(file: &[u8], places: usize, room: usize, q: &mut [[i64; 2]], s: &mut [[i64; 9]]) -> ReadAnswer
     requires { ⌜ (mostResources ≤ length (now q)) × (mostTasks ≤ length (now s)) ⌝ }
     ensures { λ r. ⌜ r ≡ readAnswer (readPlan places room (now (file .entry))) ⌝ }
-    ensures { λ _. ⌜ Stands (readPlan places room (now (file .entry))) (resourcesOf (now (q .entry))) (resourcesOf (now (q .exit))) (tasksOf (now (s .entry))) (tasksOf (now (s .exit))) ⌝ }
+    ensures { λ _. ⌜ Stands (readPlan places room (now (file .entry))) (resourcesOf (now (q .exit))) (tasksOf (now (s .exit))) ⌝ }
 {
     let start = Cursor { at: 0 };
     let got = start.next(file);

@@ -15,9 +15,8 @@ use Rattle.plan.specs.declared.Sense.{Sense}
 use Rattle.file.specs.declared.Header.{Header}
 use Rattle.file.specs.declared.ReadAnswer.{ReadAnswer}
 use Rattle.file.specs.Format.{senseFrom}
-use Rattle.file.specs.Writing.{laid}
 use Rattle.file.specs.Reading.{Read, bodyDue, resourcesIn, tasksIn, readAfter, readAnswer}
-use Rattle.file.proofs.Stores.{taken, sets-laid}
+use Rattle.file.proofs.Stores.{taken}
 use Rattle.file.proofs.Files.{length-resourcesIn, length-tasksIn, stands-not, stands-is}
 use borrow.Author.Needs.{needs}
 use Rattle.file.proofs.reader.read_after.Statement.{statement}
@@ -43,23 +42,27 @@ module _ (c : tie.After-check) where
   tasks-room : length (tasksIn h file) ≤ length (tasksOf (c .before .before .before .before .before .before .before .before .before .before .before .args .s .now))
   tasks-room = omega (arith, length-tasksIn h file, length-tasks (c .before .before .before .before .before .before .before .before .before .before .before .args .s .now), c .before .before .before .before .before .before .before .before .before .before .before .pre .1)
 
-  resources-stand : resourcesOf (c .before .before .before .before .before .before .before .read-body .last .1 .1 .0) ≡ laid (resourcesIn h file) (resourcesOf (c .before .before .before .before .before .before .before .before .before .before .before .args .q .now))
-  resources-stand = stored .0 ∙ sets-laid (resourcesIn h file) (resourcesOf (c .before .before .before .before .before .before .before .before .before .before .before .args .q .now)) resources-room
+  resources-stand : take (length (resourcesIn h file)) (resourcesOf (c .before .before .before .before .before .before .before .read-body .last .1 .1 .0)) ≡ resourcesIn h file
+  resources-stand =
+      ap (take (length (resourcesIn h file))) (stored .0)
+      ∙ taken (length (resourcesIn h file)) (resourcesIn h file) (resourcesOf (c .before .before .before .before .before .before .before .before .before .before .before .args .q .now)) refl resources-room
 
-  tasks-stand : tasksOf (c .before .before .before .before .before .before .before .read-body .last .1 .1 .1 .0) ≡ laid (tasksIn h file) (tasksOf (c .before .before .before .before .before .before .before .before .before .before .before .args .s .now))
-  tasks-stand = stored .1 ∙ sets-laid (tasksIn h file) (tasksOf (c .before .before .before .before .before .before .before .before .before .before .before .args .s .now)) tasks-room
+  tasks-stand : take (length (tasksIn h file)) (tasksOf (c .before .before .before .before .before .before .before .read-body .last .1 .1 .1 .0)) ≡ tasksIn h file
+  tasks-stand =
+      ap (take (length (tasksIn h file))) (stored .1)
+      ∙ taken (length (tasksIn h file)) (tasksIn h file) (tasksOf (c .before .before .before .before .before .before .before .before .before .before .before .args .s .now)) refl tasks-room
 
   resources-read : resourcesOf (take (h .resources) (c .before .before .before .before .before .before .before .read-body .last .1 .1 .0)) ≡ resourcesIn h file
   resources-read =
       resources-take (h .resources) (c .before .before .before .before .before .before .before .read-body .last .1 .1 .0)
-      ∙ ap (take (h .resources)) (stored .0)
-      ∙ taken (h .resources) (resourcesIn h file) (resourcesOf (c .before .before .before .before .before .before .before .before .before .before .before .args .q .now)) (length-resourcesIn h file) (omega (arith, resources-room, length-resourcesIn h file))
+      ∙ ap (λ (n : ℕ). take n (resourcesOf (c .before .before .before .before .before .before .before .read-body .last .1 .1 .0))) (sym (length-resourcesIn h file))
+      ∙ resources-stand
 
   tasks-read : tasksOf (take (h .tasks) (c .before .before .before .before .before .before .before .read-body .last .1 .1 .1 .0)) ≡ tasksIn h file
   tasks-read =
       tasks-take (h .tasks) (c .before .before .before .before .before .before .before .read-body .last .1 .1 .1 .0)
-      ∙ ap (take (h .tasks)) (stored .1)
-      ∙ taken (h .tasks) (tasksIn h file) (tasksOf (c .before .before .before .before .before .before .before .before .before .before .before .args .s .now)) (length-tasksIn h file) (omega (arith, tasks-room, length-tasksIn h file))
+      ∙ ap (λ (n : ℕ). take n (tasksOf (c .before .before .before .before .before .before .before .read-body .last .1 .1 .1 .0))) (sym (length-tasksIn h file))
+      ∙ tasks-stand
 
   checked : checkedOf (c .check .result) ≡ check (resourcesIn h file) (tasksIn h file)
   checked =
