@@ -1,0 +1,178 @@
+-- What is due, told from what the reader hands out.
+use mathlib.Core.Path.{_≡_, refl, sym, ap, _∙_}
+use mathlib.Core.Bool.{Bool, true, false, not}
+use mathlib.Core.List.{List, [], _∷_, _++_, map}
+use Prim.Native.Nat.{ℕ, zero, suc, _+_, _-_, _*_, _≤_, _<_}
+use native.Mathlib.Omega.{arith}
+use lib.Dec.{eqb, ltb}
+use lib.ListN.{length, getD}
+use borrow.Author.Tests.{eqb-true, eq-eqb, le-ltb}
+use mathlib.Core.Logic.{⊎-elim}
+use types.Run.{OneOf}
+use denote.Enum.Declared
+use Rattle.file.proofs.Record as Record'
+use Rattle.integers.specs.Tests.{if, and}
+use Rattle.integers.proofs.Tests.{by-cases, if-case, and-first, false-in, clash}
+use Rattle.plan.specs.declared.Task.{Task}
+use Rattle.plan.specs.declared.Resource.{Resource}
+use Rattle.plan.specs.declared.Refusal.{Refusal}
+use Rattle.plan.specs.declared.Refusal.the-variants.{WrongMark, CutShort}
+use Rattle.rules.specs.Calls.{Checked, orElse, refuseIf}
+use Rattle.file.specs.declared.Mark.{Mark}
+use Rattle.file.specs.declared.Mark.the-variants.{PL, RS, TK}
+use Rattle.file.specs.declared.Header.{Header}
+use Rattle.file.specs.declared.Cursor.{Cursor}
+use Rattle.file.specs.declared.Record.{Record}
+use Rattle.file.specs.Format.{mark, size, numbersIn, headerFrom, resourceFrom, taskFrom}
+use Rattle.file.specs.Reading.{marked, due, cursor, whole, handed, sameMark, notDue}
+use Rattle.file.proofs.Records.{due-length, due-marked}
+
+-- a whole record of that mark
+abbrev pub holds : Mark → Record → Bool
+holds k (Record.Plan h c) = sameMark PL k
+holds k (Record.Resource q c) = sameMark RS k
+holds k (Record.Task t c) = sameMark TK k
+holds k (Record.CutShort j) = false
+holds k Record.NoMark = false
+holds k Record.Ended = false
+
+-- "each caller takes the record it is due and turns every other answer into the refusal"
+abbrev pub asDue : Mark → ℕ → Record → Checked
+asDue k at r = if (holds k r) Checked.Accepted (Checked.Refuse (notDue k at r))
+
+apart : (j k : Mark) (bs : List ℕ) → sameMark j k ≡ false → marked j bs ≡ true → marked k bs ≡ false
+unfolding marked
+apart j k bs e m =
+    false-in (marked k bs)
+    (λ n.
+      let a = getD bs 0 0 in
+      let p = eqb-true a (getD (mark j) 0 0) (and-first (eqb a (getD (mark j) 0 0)) (eqb (getD bs 1 0) (getD (mark j) 1 0)) m) in
+      let q = eqb-true a (getD (mark k) 0 0) (and-first (eqb a (getD (mark k) 0 0)) (eqb (getD bs 1 0) (getD (mark k) 1 0)) n) in
+      clash (sameMark j k) (eq-eqb (getD (mark j) 0 0) (getD (mark k) 0 0) (sym p ∙ q)) e)
+
+module _ (k : Mark) (at : ℕ) (bs : List ℕ) where
+  own : (r : Record) → sameMark k k ≡ true → holds k r ≡ true → asDue k at (whole k bs r) ≡ refuseIf (ltb (length bs) (size k)) (CutShort at)
+  own r s h = by-cases (ltb (length bs) (size k)) (λ e. rw (e, s)) (λ e. rw (e, h))
+
+  -- a record of another mark, whole or not
+  other : (j : Mark) (r : Record) → sameMark j k ≡ false → asDue k at r ≡ Checked.Refuse (WrongMark at) → asDue k at (whole j bs r) ≡ Checked.Refuse (WrongMark at)
+  other j r s h = by-cases (ltb (length bs) (size j)) (λ e. rw (e, s)) (λ e. rw e h)
+
+  -- where the mark is the one that is due, and where it is not
+  Right : Type 0
+  Right = ltb (length bs) 2 ≡ false → marked k bs ≡ true → asDue k at (handed at bs) ≡ refuseIf (ltb (length bs) (size k)) (CutShort at)
+
+  Wrong : Type 0
+  Wrong = ltb (length bs) 2 ≡ false → marked k bs ≡ false → asDue k at (handed at bs) ≡ Checked.Refuse (WrongMark at)
+
+  ended : ltb (length bs) 2 ≡ true → due k at bs ≡ asDue k at (handed at bs)
+  unfolding due handed
+  ended e = rw e
+
+  due-by : Right → Wrong → due k at bs ≡ asDue k at (handed at bs)
+  unfolding due Right Wrong
+  due-by r w =
+      by-cases (ltb (length bs) 2) ended
+      (λ e. by-cases (marked k bs) (λ m. rw (e, m) (sym (r e m))) (λ m. rw (e, m) (sym (w e m))))
+
+module _ (at : ℕ) (bs : List ℕ) where
+  -- the three records, where they are whole
+  a : Record
+  a = Record.Plan (headerFrom (numbersIn PL bs)) (cursor (at + 6))
+
+  b : Record
+  b = Record.Resource (resourceFrom (numbersIn RS bs)) (cursor (at + 10))
+
+  t : Record
+  t = Record.Task (taskFrom (numbersIn TK bs)) (cursor (at + 36))
+
+  from-tk : (k : Mark) → ltb (length bs) 2 ≡ false → marked PL bs ≡ false → marked RS bs ≡ false → sameMark TK k ≡ false → asDue k at t ≡ Checked.Refuse (WrongMark at) → asDue k at (handed at bs) ≡ Checked.Refuse (WrongMark at)
+  unfolding handed t
+  from-tk k e p r s h =
+      by-cases (marked TK bs) (λ m. rw (e, p, r, m) (other k at bs TK t s h)) (λ m. rw (e, p, r, m))
+
+  pub plan-due : due PL at bs ≡ asDue PL at (handed at bs)
+  unfolding handed Right Wrong a b t
+  plan-due =
+      due-by PL at bs (λ e m. rw (e, m) (own PL at bs a refl refl))
+      (λ e m. by-cases (marked RS bs) (λ r. rw (e, m, r) (other PL at bs RS b refl refl)) (λ r. from-tk PL e m r refl refl))
+
+  pub resource-due : due RS at bs ≡ asDue RS at (handed at bs)
+  unfolding handed Right Wrong a b t
+  resource-due =
+      due-by RS at bs (λ e m. rw (e, apart RS PL bs refl m, m) (own RS at bs b refl refl))
+      (λ e m. by-cases (marked PL bs) (λ p. rw (e, p) (other RS at bs PL a refl refl)) (λ p. from-tk RS e p m refl refl))
+
+  pub task-due : due TK at bs ≡ asDue TK at (handed at bs)
+  unfolding handed Right Wrong a b t
+  task-due =
+      due-by TK at bs (λ e m. rw (e, apart TK PL bs refl m, apart TK RS bs refl m, m) (own TK at bs t refl refl))
+      (λ e m.
+        by-cases (marked PL bs) (λ p. rw (e, p) (other TK at bs PL a refl refl))
+        (λ p. by-cases (marked RS bs) (λ r. rw (e, p, r) (other TK at bs RS b refl refl)) (λ r. rw (e, p, r, m))))
+
+  -- a record that is due and stands there is handed out whole
+  module _ (k : Mark) (d : due k at bs ≡ Checked.Accepted) where
+    two-left : ltb (length bs) 2 ≡ false
+    two-left = le-ltb (length bs) 2 (omega (arith, due-length k at bs d))
+
+    all-left : ltb (length bs) (size k) ≡ false
+    all-left = le-ltb (length bs) (size k) (due-length k at bs d)
+
+  pub plan-whole : due PL at bs ≡ Checked.Accepted → handed at bs ≡ Record.Plan (headerFrom (numbersIn PL bs)) (cursor (at + 6))
+  unfolding handed
+  plan-whole d = rw (two-left PL d, due-marked PL at bs d, all-left PL d)
+
+  pub resource-whole : due RS at bs ≡ Checked.Accepted → handed at bs ≡ Record.Resource (resourceFrom (numbersIn RS bs)) (cursor (at + 10))
+  unfolding handed
+  resource-whole d =
+      let m = due-marked RS at bs d in rw (two-left RS d, apart RS PL bs refl m, m, all-left RS d)
+
+  pub task-whole : due TK at bs ≡ Checked.Accepted → handed at bs ≡ Record.Task (taskFrom (numbersIn TK bs)) (cursor (at + 36))
+  unfolding handed
+  task-whole d =
+      let m = due-marked TK at bs d in rw (two-left TK d, apart TK PL bs refl m, apart TK RS bs refl m, m, all-left TK d)
+
+-- ---- an answer that is not the record due, told from its place among the answers
+none-of-plan : OneOf (1 ∷ 2 ∷ 3 ∷ 4 ∷ 5 ∷ []) 0 → ⊥
+none-of-plan = ⊎-elim (λ e. omega arith) (⊎-elim (λ e. omega arith) (⊎-elim (λ e. omega arith) (⊎-elim (λ e. omega arith) (λ e. omega arith))))
+
+none-of-resource : OneOf (0 ∷ 2 ∷ 3 ∷ 4 ∷ 5 ∷ []) 1 → ⊥
+none-of-resource = ⊎-elim (λ e. omega arith) (⊎-elim (λ e. omega arith) (⊎-elim (λ e. omega arith) (⊎-elim (λ e. omega arith) (λ e. omega arith))))
+
+none-of-task : OneOf (0 ∷ 1 ∷ 3 ∷ 4 ∷ 5 ∷ []) 2 → ⊥
+none-of-task = ⊎-elim (λ e. omega arith) (⊎-elim (λ e. omega arith) (⊎-elim (λ e. omega arith) (⊎-elim (λ e. omega arith) (λ e. omega arith))))
+
+pub not-plan : (r : Record) → OneOf (1 ∷ 2 ∷ 3 ∷ 4 ∷ 5 ∷ []) (Declared.tagOf Record'.the-type r) → holds PL r ≡ false
+not-plan (Record.Plan h c) o = absurd (none-of-plan o)
+not-plan (Record.Resource q c) o = refl
+not-plan (Record.Task t c) o = refl
+not-plan (Record.CutShort j) o = refl
+not-plan Record.NoMark o = refl
+not-plan Record.Ended o = refl
+
+pub not-resource : (r : Record) → OneOf (0 ∷ 2 ∷ 3 ∷ 4 ∷ 5 ∷ []) (Declared.tagOf Record'.the-type r) → holds RS r ≡ false
+not-resource (Record.Plan h c) o = refl
+not-resource (Record.Resource q c) o = absurd (none-of-resource o)
+not-resource (Record.Task t c) o = refl
+not-resource (Record.CutShort j) o = refl
+not-resource Record.NoMark o = refl
+not-resource Record.Ended o = refl
+
+pub not-task : (r : Record) → OneOf (0 ∷ 1 ∷ 3 ∷ 4 ∷ 5 ∷ []) (Declared.tagOf Record'.the-type r) → holds TK r ≡ false
+not-task (Record.Plan h c) o = refl
+not-task (Record.Resource q c) o = refl
+not-task (Record.Task t c) o = absurd (none-of-task o)
+not-task (Record.CutShort j) o = refl
+not-task Record.NoMark o = refl
+not-task Record.Ended o = refl
+
+-- ---- what two equal answers hold
+pub same-plan : {h g : Header} {c d : Cursor} → Record.Plan h c ≡ Record.Plan g d → (h ≡ g) × (c ≡ d)
+same-plan e = (cc, cc)
+
+pub same-resource : {q r : Resource} {c d : Cursor} → Record.Resource q c ≡ Record.Resource r d → (q ≡ r) × (c ≡ d)
+same-resource e = (cc, cc)
+
+pub same-task : {t u : Task} {c d : Cursor} → Record.Task t c ≡ Record.Task u d → (t ≡ u) × (c ≡ d)
+same-task e = (cc, cc)

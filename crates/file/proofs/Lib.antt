@@ -1,0 +1,10 @@
+-- Laws of the plan file.
+pub mod Numbers
+pub mod Stores
+pub mod Records
+pub mod Places
+pub mod Handed
+pub mod Runs
+pub mod Passed
+pub mod Files
+pub mod RoundTrip

@@ -1,0 +1,77 @@
+-- Runs of records, one step at a time: what is still to be stored, or still to be read, applied to the list as it is now, is the answer.
+use mathlib.Core.Path.{_≡_, refl, sym, ap, _∙_}
+use mathlib.Core.List.{List, [], _∷_, _++_, map}
+use Prim.Native.Nat.{ℕ, zero, suc, _+_, _-_, _≤_, _<_}
+use native.Mathlib.Omega.{arith}
+use native.Mathlib.Nat.{not-suc-le-zero, le-of-suc-le-suc}
+use native.Mathlib.Numerals.{add-one}
+use lib.ListN.{length, getD, drop, set, drop-of-length-le}
+use lib.Seq.{drop-cons, drop-drop, sets}
+use Rattle.rules.specs.Calls.{Checked, orElse}
+use Rattle.plan.specs.declared.Refusal.{Refusal}
+use Rattle.file.specs.declared.Mark.{Mark}
+use Rattle.file.specs.declared.Cursor.{Cursor}
+use Rattle.file.specs.declared.Run.{Run}
+use Rattle.file.specs.Format.{widths, size, recordBytes, numbersIn}
+use Rattle.file.specs.Writing.{recordsBytes, Each, nothing, also}
+use Rattle.file.specs.Reading.{due, eachDue, recordsIn, through}
+use Rattle.file.proofs.Records.{Held, length-record}
+use Rattle.file.proofs.Stores.{sets-append}
+
+pub each-at : {A : Type 0} {P : A → Type 0} {xs : List A} → Each P xs → (i : ℕ) (d : A) → i < length xs → P (getD xs i d)
+each-at nothing i d h = absurd (not-suc-le-zero h)
+each-at (also p r) zero d h = p
+each-at (also p r) (suc i) d h = each-at r i d (le-of-suc-le-suc h)
+
+-- ---- storing
+module _ {A : Type 0} (k : Mark) (f : A → List ℕ) (xs : List A) where
+  -- the bytes of those from place i on
+  abbrev pub bytesFrom : ℕ → List ℕ
+  bytesFrom i = recordsBytes k (map f (drop i xs))
+
+  pub store-step : (d : A) (out : List ℕ) (at i : ℕ) → i < length xs → Held (widths k) (f (getD xs i d)) → sets out at (bytesFrom i) ≡ sets (sets out at (recordBytes k (f (getD xs i d)))) (at + size k) (bytesFrom (i + 1))
+  unfolding recordsBytes
+  store-step d out at i h held =
+      rw (add-one i, drop-cons xs i d h, sets-append out at (recordBytes k (f (getD xs i d))) (recordsBytes k (map f (drop (suc i) xs))), length-record k held)
+
+  pub store-end : (out : List ℕ) (at i : ℕ) → length xs ≤ i → sets out at (bytesFrom i) ≡ out
+  unfolding recordsBytes
+  store-end out at i h = rw (drop-of-length-le xs h)
+
+-- ---- reading
+one-left : (n i : ℕ) → i < n → n - i ≡ suc (n - (i + 1))
+one-left n i h = omega arith
+
+module _ (k : Mark) (file : List ℕ) (n : ℕ) where
+  -- after i of n records: what is still due, and what is still to come
+  abbrev pub dueFrom : ℕ → ℕ → Checked
+  dueFrom i at = eachDue k (n - i) at (drop at file)
+
+  abbrev pub readFrom : {A : Type 0} → (List ℕ → A) → ℕ → ℕ → List A
+  readFrom f i at = map f (recordsIn k (n - i) (drop at file))
+
+  pub due-step : (i at : ℕ) → i < n → dueFrom i at ≡ orElse (due k at (drop at file)) (dueFrom (i + 1) (at + size k))
+  unfolding eachDue
+  due-step i at h = rw (one-left n i h, drop-drop (size k) at file)
+
+  pub due-end : (i at : ℕ) → n ≤ i → dueFrom i at ≡ Checked.Accepted
+  unfolding eachDue
+  due-end i at h = let e : n - i ≡ 0 = omega arith in rw e
+
+  module _ {A : Type 0} (f : List ℕ → A) (ds : List A) where
+    pub read-step : (i at : ℕ) → i < n → sets ds i (readFrom f i at) ≡ sets (set ds i (f (numbersIn k (drop at file)))) (i + 1) (readFrom f (i + 1) (at + size k))
+    unfolding recordsIn
+    read-step i at h = rw (one-left n i h, drop-drop (size k) at file, add-one i)
+
+    pub read-end : (i at : ℕ) → n ≤ i → sets ds i (readFrom f i at) ≡ ds
+    unfolding recordsIn
+    read-end i at h = let e : n - i ≡ 0 = omega arith in rw e
+
+-- ---- what a run answers
+pub run-refused : (d : Checked) (c : Cursor) {f : Refusal} → through d c ≡ Run.Refused f → d ≡ Checked.Refuse f
+run-refused Checked.Accepted c e = cc
+run-refused (Checked.Refuse g) c e = cc
+
+pub run-past : (d : Checked) (c : Cursor) {p : Cursor} → through d c ≡ Run.Through p → (d ≡ Checked.Accepted) × (p ≡ c)
+run-past Checked.Accepted c e = (refl, cc)
+run-past (Checked.Refuse g) c e = (cc, cc)

@@ -1,0 +1,348 @@
+// A reader stands in the lent file bytes and hands out one record after another: a cursor by value on the bytes.
+ghost use mathlib.Core.Path.{_≡_};
+ghost use Prim.Native.Nat.{ℕ, _+_, _*_, _≤_, _<_, _^_};
+ghost use mathlib.Core.List.{map};
+ghost use lib.ListN.{length, getD, take, drop};
+ghost use lib.Seq.{sets};
+ghost use Rattle.rules.specs.Calls.{Checked, orElse, refuseIf, mostResources, mostTasks};
+ghost use lib.Dec.{ltb};
+ghost use Rattle.plan.specs.declared.Refusal.the-variants.{CutShort};
+ghost use Rattle.rows.specs.View.{tasksOf, resourcesOf};
+ghost use Rattle.entry.specs.Checks.{checkedOf};
+ghost use Rattle.file.specs.declared.Mark.the-variants.{PL, RS, TK};
+ghost use Rattle.file.specs.Format.{mark, size, numbersIn, headerFrom, resourceFrom, taskFrom, senseFrom};
+ghost use Rattle.file.specs.Reading.{marked, cursor, whole, handed, recordAt, sameMark, notDue, through, eachDue, recordsIn, headerDue, bodyDue, resourcesIn, tasksIn, readAfter, readPlan, readAnswer, Stands};
+use crate::Cursor;
+use crate::Header;
+use crate::Mark;
+use crate::ReadAnswer;
+use crate::Record;
+use crate::Run;
+use crate::fields::day_at;
+use crate::fields::first_byte;
+use crate::fields::id_at;
+use crate::fields::one_at;
+use crate::fields::power_at;
+use crate::fields::second_byte;
+use crate::fields::two_at;
+use entry::Entry;
+use plan::PowerSpan;
+use plan::Refusal;
+use plan::Resource;
+use plan::Sense;
+use plan::Span;
+use plan::Task;
+
+// What each record holds, where the bytes begin with it.
+fn header_of(b: &[u8]) -> Header
+    requires { ⌜ 6 ≤ length (now b) ⌝ }
+    ensures { λ r. ⌜ r ≡ headerFrom (numbersIn PL (now (b .entry))) ⌝ }
+{
+    Header {
+        sense: b[2],
+        resources: one_at(b, 3) as usize,
+        tasks: two_at(b, 4) as usize,
+    }
+}
+
+fn resource_of(b: &[u8]) -> Resource
+    requires { ⌜ 10 ≤ length (now b) ⌝ }
+    ensures { λ r. ⌜ r ≡ resourceFrom (numbersIn RS (now (b .entry))) ⌝ }
+{
+    Resource {
+        id: id_at(b, 2),
+        limit: power_at(b, 6),
+    }
+}
+
+fn task_of(b: &[u8]) -> Task
+    requires { ⌜ 36 ≤ length (now b) ⌝ }
+    ensures { λ r. ⌜ r ≡ taskFrom (numbersIn TK (now (b .entry))) ⌝ }
+{
+    Task {
+        set: two_at(b, 2) as u64,
+        origin: Span {
+            low: day_at(b, 4),
+            high: day_at(b, 8),
+        },
+        duration: Span {
+            low: day_at(b, 12),
+            high: day_at(b, 16),
+        },
+        end: Span {
+            low: day_at(b, 20),
+            high: day_at(b, 24),
+        },
+        height: PowerSpan {
+            low: power_at(b, 28),
+            high: power_at(b, 32),
+        },
+    }
+}
+
+// The two mark bytes are those of the mark.
+fn is_marked(k: Mark, b: &[u8]) -> bool
+    requires { ⌜ 2 ≤ length (now b) ⌝ }
+    ensures { λ r. ⌜ r ≡ marked k (now (b .entry)) ⌝ }
+{
+    if b[0] == first_byte(k) { b[1] == second_byte(k) } else { false }
+}
+
+// Each record, unless it is longer than the rest; the cursor past it.
+fn plan_record(at: usize, b: &[u8]) -> Record
+    requires { ⌜ at + length (now b) < 2 ^ 64 ⌝ }
+    ensures { λ r. ⌜ r ≡ whole PL (now (b .entry)) (Record.Plan (headerFrom (numbersIn PL (now (b .entry)))) (cursor (at + size PL))) ⌝ }
+{
+    if b.len() < 6 {
+        return Record::CutShort(Mark::PL);
+    }
+    Record::Plan(header_of(b), Cursor { at: at + 6 })
+}
+
+fn resource_record(at: usize, b: &[u8]) -> Record
+    requires { ⌜ at + length (now b) < 2 ^ 64 ⌝ }
+    ensures { λ r. ⌜ r ≡ whole RS (now (b .entry)) (Record.Resource (resourceFrom (numbersIn RS (now (b .entry)))) (cursor (at + size RS))) ⌝ }
+{
+    if b.len() < 10 {
+        return Record::CutShort(Mark::RS);
+    }
+    Record::Resource(resource_of(b), Cursor { at: at + 10 })
+}
+
+fn task_record(at: usize, b: &[u8]) -> Record
+    requires { ⌜ at + length (now b) < 2 ^ 64 ⌝ }
+    ensures { λ r. ⌜ r ≡ whole TK (now (b .entry)) (Record.Task (taskFrom (numbersIn TK (now (b .entry)))) (cursor (at + size TK))) ⌝ }
+{
+    if b.len() < 36 {
+        return Record::CutShort(Mark::TK);
+    }
+    Record::Task(task_of(b), Cursor { at: at + 36 })
+}
+
+// What stands in the bytes from the place `at` on.
+fn handed(at: usize, b: &[u8]) -> Record
+    requires { ⌜ at + length (now b) < 2 ^ 64 ⌝ }
+    ensures { λ r. ⌜ r ≡ handed at (now (b .entry)) ⌝ }
+{
+    if b.len() < 2 {
+        return Record::Ended;
+    }
+    if is_marked(Mark::PL, b) {
+        return plan_record(at, b);
+    }
+    if is_marked(Mark::RS, b) {
+        return resource_record(at, b);
+    }
+    if is_marked(Mark::TK, b) {
+        return task_record(at, b);
+    }
+    Record::NoMark
+}
+
+impl Cursor {
+    // The record at the cursor; a cursor past the end stands before nothing.
+    pub fn next(self, file: &[u8]) -> Record
+        ensures { λ r. ⌜ r ≡ recordAt (now (file .entry)) (self .at) ⌝ }
+    {
+        let at = self.at;
+        if at < file.len() {
+            return handed(at, &file[at..]);
+        }
+        Record::Ended
+    }
+}
+
+fn same_mark(j: Mark, k: Mark) -> bool
+    ensures { λ r. ⌜ r ≡ sameMark j k ⌝ }
+{
+    first_byte(j) == first_byte(k)
+}
+
+// "turns every other answer into the refusal": the place is where the record starts.
+pub fn not_due(k: Mark, at: usize, got: Record) -> Refusal
+    ensures { λ r. ⌜ r ≡ notDue k at got ⌝ }
+{
+    match got {
+        Record::Ended => Refusal::CutShort(at),
+        Record::CutShort(j) => {
+            if same_mark(j, k) {
+                Refusal::CutShort(at)
+            } else {
+                Refusal::WrongMark(at)
+            }
+        }
+        Record::Plan(_, _) => Refusal::WrongMark(at),
+        Record::Resource(_, _) => Refusal::WrongMark(at),
+        Record::Task(_, _) => Refusal::WrongMark(at),
+        Record::NoMark => Refusal::WrongMark(at),
+    }
+}
+
+// So many records of one mark, one after another: the rows they make, and the cursor past them.
+fn read_resources(file: &[u8], from: Cursor, n: usize, q: &mut [[i64; 2]]) -> Run
+    requires { ⌜ n ≤ length (now q) ⌝ }
+    ensures { λ r. ⌜ r ≡ through (eachDue RS n (from .at) (drop (from .at) (now (file .entry)))) (cursor (from .at + n * size RS)) ⌝ }
+    ensures { λ _. ⌜ (eachDue RS n (from .at) (drop (from .at) (now (file .entry))) ≡ Checked.Accepted → resourcesOf (now (q .exit)) ≡ sets (resourcesOf (now (q .entry))) 0 (map resourceFrom (recordsIn RS n (drop (from .at) (now (file .entry)))))) ⌝ }
+{
+    let mut c = from;
+    let mut i: usize = 0;
+    while i < n {
+        let at = c.at;
+        let got = c.next(file);
+        let Record::Resource(r, past) = got else {
+            return Run::Refused(not_due(Mark::RS, at, got));
+        };
+        rows::put_resource(q, i, r);
+        c = past;
+        i += 1;
+    }
+    Run::Through(c)
+}
+
+fn read_tasks(file: &[u8], from: Cursor, n: usize, s: &mut [[i64; 9]]) -> Run
+    requires { ⌜ n ≤ length (now s) ⌝ }
+    ensures { λ r. ⌜ r ≡ through (eachDue TK n (from .at) (drop (from .at) (now (file .entry)))) (cursor (from .at + n * size TK)) ⌝ }
+    ensures { λ _. ⌜ (eachDue TK n (from .at) (drop (from .at) (now (file .entry))) ≡ Checked.Accepted → tasksOf (now (s .exit)) ≡ sets (tasksOf (now (s .entry))) 0 (map taskFrom (recordsIn TK n (drop (from .at) (now (file .entry)))))) ⌝ }
+{
+    let mut c = from;
+    let mut i: usize = 0;
+    while i < n {
+        let at = c.at;
+        let got = c.next(file);
+        let Record::Task(t, past) = got else {
+            return Run::Refused(not_due(Mark::TK, at, got));
+        };
+        rows::put_task(s, i, t);
+        c = past;
+        i += 1;
+    }
+    Run::Through(c)
+}
+
+// "In PL then, in this order": the sense, the task count, the resource count, the lent lists.
+fn check_header(h: Header, places: usize, room: usize) -> Entry
+    ensures { λ r. ⌜ checkedOf r ≡ headerDue places room h ⌝ }
+{
+    if 1 < h.sense {
+        return Entry::Refused(Refusal::WrongMark(0));
+    }
+    if 256 < h.tasks {
+        return Entry::Refused(Refusal::TooManyTasks);
+    }
+    if h.resources == 0 {
+        return Entry::Refused(Refusal::ResourceCount);
+    }
+    if 16 < h.resources {
+        return Entry::Refused(Refusal::ResourceCount);
+    }
+    if places < h.resources {
+        return Entry::Refused(Refusal::ListShort);
+    }
+    if room < h.tasks {
+        return Entry::Refused(Refusal::ListShort);
+    }
+    Entry::Accepted
+}
+
+// All TK, and "after the last record, leftover bytes 9".
+fn read_rest(file: &[u8], from: Cursor, n: usize, s: &mut [[i64; 9]]) -> Entry
+    requires { ⌜ n ≤ length (now s) ⌝ }
+    ensures { λ r. ⌜ checkedOf r ≡ orElse (eachDue TK n (from .at) (drop (from .at) (now (file .entry)))) (refuseIf (ltb (from .at + n * size TK) (length (now (file .entry)))) (CutShort (from .at + n * size TK))) ⌝ }
+    ensures { λ _. ⌜ (eachDue TK n (from .at) (drop (from .at) (now (file .entry))) ≡ Checked.Accepted → tasksOf (now (s .exit)) ≡ sets (tasksOf (now (s .entry))) 0 (map taskFrom (recordsIn TK n (drop (from .at) (now (file .entry)))))) ⌝ }
+{
+    let run = read_tasks(file, from, n, s);
+    match run {
+        Run::Refused(f) => Entry::Refused(f),
+        Run::Through(c) => {
+            let at = c.at;
+            if at < file.len() {
+                return Entry::Refused(Refusal::CutShort(at));
+            }
+            Entry::Accepted
+        }
+    }
+}
+
+// All RS, all TK, nothing more.
+fn read_body(file: &[u8], h: Header, q: &mut [[i64; 2]], s: &mut [[i64; 9]]) -> Entry
+    requires { ⌜ (h .resources ≤ length (now q)) × (h .tasks ≤ length (now s)) ⌝ }
+    ensures { λ r. ⌜ checkedOf r ≡ bodyDue h (now (file .entry)) ⌝ }
+    ensures { λ _. ⌜ (bodyDue h (now (file .entry)) ≡ Checked.Accepted → (resourcesOf (now (q .exit)) ≡ sets (resourcesOf (now (q .entry))) 0 (resourcesIn h (now (file .entry)))) × (tasksOf (now (s .exit)) ≡ sets (tasksOf (now (s .entry))) 0 (tasksIn h (now (file .entry))))) ⌝ }
+{
+    let from = Cursor { at: 6 };
+    let run = read_resources(file, from, h.resources, q);
+    match run {
+        Run::Refused(f) => Entry::Refused(f),
+        Run::Through(c) => read_rest(file, c, h.tasks, s),
+    }
+}
+
+fn sense_of(b: u8) -> Sense
+    ensures { λ r. ⌜ r ≡ senseFrom b ⌝ }
+{
+    if b == 0 { Sense::AtMost } else { Sense::AtLeast }
+}
+
+// The body, "then 3 to 6", over rows with places enough.
+fn read_after(file: &[u8], h: Header, q: &mut [[i64; 2]], s: &mut [[i64; 9]]) -> ReadAnswer
+    requires { ⌜ (h .resources ≤ length (now q)) × (h .tasks ≤ length (now s)) ⌝ }
+    ensures { λ r. ⌜ r ≡ readAnswer (readAfter h (now (file .entry))) ⌝ }
+    ensures { λ _. ⌜ Stands (readAfter h (now (file .entry))) (resourcesOf (now (q .exit))) (tasksOf (now (s .exit))) ⌝ }
+{
+    let body = read_body(file, h, q, s);
+    match body {
+        Entry::Refused(f) => ReadAnswer::Refused(f),
+        Entry::Accepted => {
+            let n = h.resources;
+            let m = h.tasks;
+            let contents = entry::check(&q[..n], &s[..m]);
+            match contents {
+                Entry::Refused(f) => ReadAnswer::Refused(f),
+                Entry::Accepted => ReadAnswer::Plan(sense_of(h.sense), n, m),
+            }
+        }
+    }
+}
+
+// The plan of a file, into rows of our own: nothing lent is touched before the file is known to be whole.
+pub fn read_plan(file: &[u8], places: usize, room: usize, q: &mut [[i64; 2]], s: &mut [[i64; 9]]) -> ReadAnswer
+    requires { ⌜ (mostResources ≤ length (now q)) × (mostTasks ≤ length (now s)) ⌝ }
+    ensures { λ r. ⌜ r ≡ readAnswer (readPlan places room (now (file .entry))) ⌝ }
+    ensures { λ _. ⌜ Stands (readPlan places room (now (file .entry))) (resourcesOf (now (q .exit))) (tasksOf (now (s .exit))) ⌝ }
+{
+    let start = Cursor { at: 0 };
+    let got = start.next(file);
+    let Record::Plan(h, _) = got else {
+        return ReadAnswer::Refused(not_due(Mark::PL, 0, got));
+    };
+    let checked = check_header(h, places, room);
+    match checked {
+        Entry::Refused(f) => ReadAnswer::Refused(f),
+        Entry::Accepted => read_after(file, h, q, s),
+    }
+}
+
+// The first n rows of one list into another.
+pub fn copy_resources(n: usize, from: &[[i64; 2]], to: &mut [[i64; 2]])
+    requires { ⌜ (n ≤ length (now from)) × (n ≤ length (now to)) ⌝ }
+    ensures { λ _. ⌜ now (to .exit) ≡ sets (now (to .entry)) 0 (take n (now (from .entry))) ⌝ }
+{
+    let mut i: usize = 0;
+    while i < n {
+        let r = from[i];
+        to[i] = r;
+        i += 1;
+    }
+}
+
+pub fn copy_tasks(n: usize, from: &[[i64; 9]], to: &mut [[i64; 9]])
+    requires { ⌜ (n ≤ length (now from)) × (n ≤ length (now to)) ⌝ }
+    ensures { λ _. ⌜ now (to .exit) ≡ sets (now (to .entry)) 0 (take n (now (from .entry))) ⌝ }
+{
+    let mut i: usize = 0;
+    while i < n {
+        let r = from[i];
+        to[i] = r;
+        i += 1;
+    }
+}
