@@ -234,7 +234,7 @@ pub enum Call {
 }
 
 // "a resource step names a place not in the list"
-fn is_placed(c: Call, resources: usize) -> bool
+pub fn is_placed(c: Call, resources: usize) -> bool
     ensures { λ r. ⌜ r ≡ placedIn resources c ⌝ }
 {
     match c {
@@ -300,7 +300,7 @@ fn work(
 }
 
 // A call on tasks that passed the checks, in what is lent: turned to face the steps, and back on success.
-fn worked(
+pub fn worked(
     c: Call,
     sense: Sense,
     q: &[[i64; 2]],

@@ -1,5 +1,5 @@
 // Plan files: records of marked bytes, a cursor that hands them out one after another, a reader and a writer.
-mod reader;
+pub mod reader;
 mod writer;
 mod fields;
 
@@ -69,7 +69,7 @@ pub enum WriteAnswer {
 }
 
 // The bytes of a plan that passes the checks, if the buffer has room for them.
-fn put_plan(sense: Sense, q: &[[i64; 2]], s: &[[i64; 9]], out: &mut [u8]) -> WriteAnswer
+pub fn put_plan(sense: Sense, q: &[[i64; 2]], s: &[[i64; 9]], out: &mut [u8]) -> WriteAnswer
     requires { ⌜ check (resourcesOf (now q)) (tasksOf (now s)) ≡ Checked.Accepted ⌝ }
     ensures { λ r. ⌜ writeResult r (now (out .exit)) ≡ writtenIn (written sense (resourcesOf (now (q .entry))) (tasksOf (now (s .entry)))) (now (out .entry)) ⌝ }
 {

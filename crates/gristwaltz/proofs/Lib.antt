@@ -1,0 +1,2 @@
+-- Laws of the calls on plan files.
+pub mod Files
