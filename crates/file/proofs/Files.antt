@@ -1,6 +1,6 @@
 -- Whole files: a written plan is read back as itself, and a file that is read is the writing of what was read.
 use mathlib.Core.Path.{_≡_, refl, sym, ap, _∙_, subst}
-use mathlib.Core.Bool.{Bool, true, false}
+use mathlib.Core.Bool.{true, false}
 use mathlib.Core.List.{List, [], _∷_, _++_, map, append-nil}
 use Prim.Native.Nat.{ℕ, zero, suc, _+_, _*_, _≤_, _<_}
 use native.Mathlib.Omega.{arith}
@@ -19,16 +19,15 @@ use Rattle.plan.specs.declared.Refusal.{Refusal}
 use Rattle.plan.specs.declared.Refusal.the-variants.{WrongMark, CutShort, TooManyTasks, ResourceCount, ListShort}
 use Rattle.rows.specs.View.{taskOf, tasksOf, resourceOf, resourcesOf}
 use Rattle.rules.specs.Calls.{Checked, orElse, refuseIf, check, mostTasks, mostResources}
-use Rattle.file.specs.declared.Mark.{Mark}
 use Rattle.file.specs.declared.Mark.the-variants.{PL, RS, TK}
 use Rattle.file.specs.declared.Header.{Header}
 use Rattle.file.specs.declared.ReadAnswer.{ReadAnswer}
-use Rattle.file.specs.Format.{widths, size, recordBytes, fieldsIn, numbersIn, headerNumbers, headerFrom, resourceNumbers, resourceFrom, taskNumbers, taskFrom, senseNumber, senseFrom}
-use Rattle.file.specs.Writing.{recordsBytes, ResourceSmall, TaskSmall, Each, nothing, also, headerOf, written, laid}
+use Rattle.file.specs.Format.{widths, recordBytes, fieldsIn, numbersIn, headerNumbers, headerFrom, resourceNumbers, resourceFrom, taskNumbers, taskFrom, senseNumber, senseFrom}
+use Rattle.file.specs.Writing.{recordsBytes, Each, nothing, also, headerOf, written, laid}
 use Rattle.file.specs.Reading.{due, eachDue, recordsIn, headerIn, tasksFrom, fileEnd, resourcesIn, tasksIn, headerDue, bodyDue, shapeDue, Read, readUnless, readPlan, readAnswer, readResult, readInto, Stands}
 use Rattle.file.proofs.Numbers.{AllBytes, room, bytes-drop}
 use Rattle.file.proofs.Stores.{sets-append, copied}
-use Rattle.file.proofs.Records.{Held, none, more, both, then-first, then-second, unrefused, held-fields, length-record, numbers-record, due-record, due-length, record-numbers, length-records, due-records, numbers-records, length-recordsIn, due-total, records-numbers, records-held}
+use Rattle.file.proofs.Records.{Held, none, more, then-first, then-second, unrefused, length-record, numbers-record, due-record, record-numbers, length-records, due-records, numbers-records, length-recordsIn, records-numbers, records-held}
 use Rattle.file.proofs.Passed.{neither-first, neither-second, Identified, Passed, passed, resource-held, resource-back, task-held, task-back, resource-numbers, task-numbers, resource-identified}
 
 -- ---- a list mapped there and back

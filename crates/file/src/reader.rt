@@ -1,8 +1,8 @@
 // A reader stands in the lent file bytes and hands out one record after another: a cursor by value on the bytes.
 ghost use mathlib.Core.Path.{_≡_};
-ghost use Prim.Native.Nat.{ℕ, _+_, _*_, _≤_, _<_, _^_};
+ghost use Prim.Native.Nat.{_+_, _*_, _≤_, _<_, _^_};
 ghost use mathlib.Core.List.{map};
-ghost use lib.ListN.{length, getD, take, drop};
+ghost use lib.ListN.{length, take, drop};
 ghost use lib.Seq.{sets};
 ghost use Rattle.rules.specs.Calls.{Checked, orElse, refuseIf, mostResources, mostTasks};
 ghost use lib.Dec.{ltb};
@@ -10,7 +10,7 @@ ghost use Rattle.plan.specs.declared.Refusal.the-variants.{CutShort};
 ghost use Rattle.rows.specs.View.{tasksOf, resourcesOf};
 ghost use Rattle.entry.specs.Checks.{checkedOf};
 ghost use Rattle.file.specs.declared.Mark.the-variants.{PL, RS, TK};
-ghost use Rattle.file.specs.Format.{mark, size, numbersIn, headerFrom, resourceFrom, taskFrom, senseFrom};
+ghost use Rattle.file.specs.Format.{size, numbersIn, headerFrom, resourceFrom, taskFrom, senseFrom};
 ghost use Rattle.file.specs.Reading.{marked, cursor, whole, handed, recordAt, sameMark, notDue, through, eachDue, recordsIn, headerDue, bodyDue, resourcesIn, tasksIn, readAfter, readPlan, readAnswer, Stands};
 use crate::Cursor;
 use crate::Header;

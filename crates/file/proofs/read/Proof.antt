@@ -1,14 +1,13 @@
 -- A refusal leaves the lent lists; a plan is copied from our rows into the first places.
 use native.Mathlib.Omega.{arith}
-use mathlib.Core.Path.{_≡_, refl, sym, ap, _∙_}
+use mathlib.Core.Path.{sym, _∙_}
 use mathlib.Core.List.{List}
 use Prim.Native.Nat.{ℕ, _≤_}
 use lib.IntN.{ℤ}
 use lib.ListN.{length}
 use Rattle.rows.specs.View.{tasksOf, resourcesOf}
 use Rattle.rows.proofs.View.{length-tasks, length-resources}
-use Rattle.file.specs.Writing.{laid}
-use Rattle.file.specs.Reading.{Read, readPlan, readInto, readCall}
+use Rattle.file.specs.Reading.{readCall}
 use Rattle.file.proofs.Files.{Told, told, refused, read-lays, resources-copied, tasks-copied}
 use borrow.Author.Needs.{needs}
 use Rattle.file.proofs.read.Statement.{statement}

@@ -1,11 +1,9 @@
 use mathlib.Core.Path.{ap, _∙_}
 use Prim.Native.Nat.{_-_}
-use lib.ListN.{length, drop, length-drop}
+use lib.ListN.{length, drop, length-drop, drop-of-length-le}
 use lib.Seq.{take-all}
 -- The rest of the file from the cursor on.
-use borrow.Author.Tests.{lt-ltb}
 use native.Mathlib.Omega.{arith}
-use lib.ListN.{drop-of-length-le}
 use Rattle.file.specs.Reading.{handed, recordAt}
 use borrow.Author.Needs.{needs}
 use Rattle.file.proofs.Cursor.next.Statement.{statement}

@@ -1,11 +1,10 @@
 -- A signed number of four bytes, in a cell of eight.
-use mathlib.Core.Path.{ap, _∙_}
+use mathlib.Core.Path.{ap}
 use native.Mathlib.Omega.{arith}
 use lib.IntN.{ℤ}
 use mir.Syntax.{w32}
 use mir.Val.{SFits}
 use mir.Facts.{toZ-ofZ, sfits-widen}
-use Rattle.plan.specs.declared.Power.{Power}
 use Rattle.file.proofs.Numbers.{widened}
 use borrow.Author.Needs.{needs}
 use Rattle.file.proofs.fields.power_at.Statement.{statement}

@@ -2,14 +2,14 @@
 use native.Mathlib.Omega.{arith}
 use borrow.Author.Tests.{le-ltb, ltb-true}
 use mathlib.Core.Bool.{true, false}
-use mathlib.Core.Path.{_≡_, refl, sym, _∙_}
+use mathlib.Core.Path.{_≡_, refl, sym}
 use Prim.Native.Nat.{suc}
 use native.Mathlib.Nat.{not-suc-le-zero}
 use lib.IntN.{ℤ, pos, negsuc, _+ℤ_, natAbs}
 use lib.Signed.{ltZ}
 use mir.Syntax.{w32, w64}
-use mir.Val.{SFits, Fits, ofZ}
-use mir.Facts.{toZ-ofZ, fits-ofZ, sfits-widen}
+use mir.Val.{SFits, ofZ}
+use mir.Facts.{toZ-ofZ, fits-ofZ}
 use Rattle.integers.proofs.Tests.{clash}
 use Rattle.file.proofs.fields.unsigned.Statement.{statement}
 use Rattle.file.proofs.fields.unsigned.Tie as tie

@@ -1,6 +1,6 @@
 -- By the two mark bytes.
 use lib.ListN.{length}
-use mathlib.Core.Path.{sym, _∙_}
+use mathlib.Core.Path.{sym}
 use borrow.Author.Tests.{lt-ltb, le-ltb}
 use Rattle.file.specs.Reading.{handed}
 use borrow.Author.Needs.{needs}

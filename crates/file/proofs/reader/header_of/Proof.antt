@@ -1,5 +1,4 @@
 -- The sense, then the two counts.
-use mathlib.Core.Path.{sym}
 use Rattle.file.proofs.Numbers.{number-one}
 use Rattle.file.proofs.Places.{header-places}
 use borrow.Author.Needs.{needs}

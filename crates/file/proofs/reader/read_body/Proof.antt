@@ -1,5 +1,5 @@
 -- The resources' run, then the rest from its end on.
-use mathlib.Core.Path.{_≡_, sym, ap, _∙_}
+use mathlib.Core.Path.{sym, ap, _∙_}
 use lib.ListN.{length, drop}
 use lib.Dec.{ltb}
 use Rattle.plan.specs.declared.Refusal.the-variants.{CutShort}

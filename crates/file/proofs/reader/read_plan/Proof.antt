@@ -1,16 +1,14 @@
 -- The PL record, its checks, then the rest.
 use native.Mathlib.Omega.{arith}
-use mathlib.Core.Path.{_≡_, refl, sym, ap, _∙_}
+use mathlib.Core.Path.{_≡_, sym, ap, _∙_}
 use mathlib.Core.Bool.{Bool}
 use mathlib.Core.List.{List}
-use Prim.Native.Nat.{ℕ, _≤_}
-use lib.ListN.{drop}
+use Prim.Native.Nat.{ℕ}
 use Rattle.integers.specs.Tests.{if}
 use Rattle.rules.specs.Calls.{Checked}
 use Rattle.entry.specs.Checks.{checkedOf}
 use Rattle.file.specs.declared.Mark.the-variants.{PL}
-use Rattle.file.specs.declared.Header.{Header}
-use Rattle.file.specs.Reading.{Read, due, headerIn, headerDue, shapeDue, readAfter, readPlan, readAnswer, recordAt, notDue}
+use Rattle.file.specs.Reading.{Read, due, headerIn, shapeDue, readAfter, readPlan, readAnswer, recordAt, notDue}
 use Rattle.file.proofs.Handed.{asDue, plan-due, plan-whole, not-plan, same-plan}
 use Rattle.file.proofs.Files.{stands-not, few}
 use borrow.Author.Needs.{needs}

@@ -1,27 +1,24 @@
 use native.Mathlib.Nat.{sub-zero}
-use lib.ListN.{length-set}
-use Rattle.file.proofs.Handed.{same-task}
+use lib.ListN.{length-set, length, drop}
+use Rattle.file.proofs.Handed.{same-task, asDue, task-due, task-whole, not-task}
 -- What is still due from the cursor on decides; the records still to come, put into the list as it is now, give the list with all of them.
 use native.Mathlib.Omega.{arith}
 use mathlib.Core.Path.{_≡_, refl, sym, ap, _∙_}
-use mathlib.Core.Bool.{Bool, true, false}
+use mathlib.Core.Bool.{Bool}
 use Rattle.integers.specs.Tests.{if}
 use Rattle.file.proofs.Records.{not-both}
 use Rattle.file.specs.declared.Run.{Run}
-use mathlib.Core.List.{List, map}
-use Prim.Native.Nat.{ℕ, _+_, _*_, _-_, _≤_, _<_}
-use lib.ListN.{length, drop, set}
+use mathlib.Core.List.{map}
+use Prim.Native.Nat.{ℕ, _+_, _*_, _-_, _≤_}
 use lib.Seq.{sets}
 use borrow.Author.Needs.{needs}
 use Rattle.rules.specs.Calls.{Checked, orElse}
 use Rattle.rows.specs.View.{tasksOf}
 use Rattle.rows.proofs.View.{length-tasks}
 use Rattle.file.specs.declared.Mark.the-variants.{TK}
-use Rattle.file.specs.declared.Record.{Record}
 use Rattle.file.specs.declared.Cursor.{Cursor}
-use Rattle.file.specs.Format.{numbersIn, taskFrom}
-use Rattle.file.specs.Reading.{due, eachDue, recordsIn, recordAt, handed, notDue, through, cursor}
-use Rattle.file.proofs.Handed.{asDue, holds, task-due, task-whole, not-task}
+use Rattle.file.specs.Format.{taskFrom}
+use Rattle.file.specs.Reading.{due, eachDue, recordsIn, recordAt, notDue, cursor}
 use Rattle.file.proofs.Runs.{dueFrom, readFrom, due-step, due-end, read-step, read-end}
 use Rattle.file.proofs.reader.read_tasks.Statement.{statement}
 use Rattle.file.proofs.reader.read_tasks.Tie as tie
