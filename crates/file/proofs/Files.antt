@@ -207,7 +207,7 @@ few places space h e =
       resources = ltb-false mostResources (h .resources) (neither-second none more c);
       tasks = ltb-false mostTasks (h .tasks) (unrefused (ltb mostTasks (h .tasks)) TooManyTasks (then-first many (orElse count lists) p));
       listed = ltb-false places (h .resources) (neither-first short narrow l);
-      room = ltb-false space (h .tasks) (neither-second short narrow l)
+      room = ltb-false space (h .tasks) (neither-second short narrow l);
     }
 
 pub length-resourcesIn : (h : Header) (file : List ℕ) → length (resourcesIn h file) ≡ h .resources
@@ -361,8 +361,8 @@ pub stands-is : {x : Read} {sense : Sense} {rs later : List Resource} {us after 
 stands-is {later} {after} e p q =
     record {
       stands = λ g.
-        let w = same-read (sym e ∙ g) in
-        (subst (λ (l : List Resource). take (length l) later ≡ l) (w .1) p, subst (λ (l : List Task). take (length l) after ≡ l) (w .2) q)
+          let w = same-read (sym e ∙ g) in
+          (subst (λ (l : List Resource). take (length l) later ≡ l) (w .1) p, subst (λ (l : List Task). take (length l) after ≡ l) (w .2) q);
     }
 
 -- ---- what an answer tells of the plan behind it
@@ -385,9 +385,10 @@ module _ (places space : ℕ) (file : List ℕ) where
       let f = counts places space file (then-first (shapeDue places space h file) checks (read-accepted due plan e)) in
       let w = same-read (read-is due plan e) in
       let r = ap length (w .1) in
-      let t = ap length (w .2) in
-      ((omega (arith, length-resourcesIn h file, f .resources), omega (arith, length-resourcesIn h file, f .listed)),
-        (omega (arith, length-tasksIn h file, f .tasks), omega (arith, length-tasksIn h file, f .room)))
+      let t = ap length (w .2) in (
+        (omega (arith, length-resourcesIn h file, f .resources), omega (arith, length-resourcesIn h file, f .listed)),
+        (omega (arith, length-tasksIn h file, f .tasks), omega (arith, length-tasksIn h file, f .room)),
+      )
 
   told-by : {sense : Sense} {n m : ℕ} (x : Read) → readPlan places space file ≡ x → readAnswer x ≡ ReadAnswer.Plan sense n m → Told places space file sense n m
   told-by {sense} {n} {m} (Read.Plan s rs us) e g =
@@ -399,7 +400,7 @@ module _ (places space : ℕ) (file : List ℕ) where
         is = e ∙ ap (λ (t : Sense). Read.Plan t rs us) (w .0);
         counted = (sym (w .1), sym (w .2));
         few-resources = (omega (arith, w .1, b .0 .0), omega (arith, w .1, b .0 .1));
-        few-tasks = (omega (arith, w .2, b .1 .0), omega (arith, w .2, b .1 .1))
+        few-tasks = (omega (arith, w .2, b .1 .0), omega (arith, w .2, b .1 .1));
       }
   told-by (Read.Refuse f) e g = absurd (never g)
 

@@ -44,10 +44,10 @@ unfolding marked
 apart j k bs e m =
     false-in (marked k bs)
     (λ n.
-      let a = getD bs 0 0 in
-      let p = eqb-true a (getD (mark j) 0 0) (and-first (eqb a (getD (mark j) 0 0)) (eqb (getD bs 1 0) (getD (mark j) 1 0)) m) in
-      let q = eqb-true a (getD (mark k) 0 0) (and-first (eqb a (getD (mark k) 0 0)) (eqb (getD bs 1 0) (getD (mark k) 1 0)) n) in
-      clash (sameMark j k) (eq-eqb (getD (mark j) 0 0) (getD (mark k) 0 0) (sym p ∙ q)) e)
+    let a = getD bs 0 0 in
+    let p = eqb-true a (getD (mark j) 0 0) (and-first (eqb a (getD (mark j) 0 0)) (eqb (getD bs 1 0) (getD (mark j) 1 0)) m) in
+    let q = eqb-true a (getD (mark k) 0 0) (and-first (eqb a (getD (mark k) 0 0)) (eqb (getD bs 1 0) (getD (mark k) 1 0)) n) in
+    clash (sameMark j k) (eq-eqb (getD (mark j) 0 0) (getD (mark k) 0 0) (sym p ∙ q)) e)
 
 module _ (k : Mark) (at : ℕ) (bs : List ℕ) where
   own : (r : Record) → sameMark k k ≡ true → holds k r ≡ true → asDue k at (whole k bs r) ≡ refuseIf (ltb (length bs) (size k)) (CutShort at)
@@ -107,8 +107,8 @@ module _ (at : ℕ) (bs : List ℕ) where
   task-due =
       due-by TK at bs (λ e m. rw (e, apart TK PL bs refl m, apart TK RS bs refl m, m) (own TK at bs task refl refl))
       (λ e m.
-        by-cases (marked PL bs) (λ p. rw (e, p) (other TK at bs PL plan refl refl))
-        (λ p. by-cases (marked RS bs) (λ r. rw (e, p, r) (other TK at bs RS resource refl refl)) (λ r. rw (e, p, r, m))))
+      by-cases (marked PL bs) (λ p. rw (e, p) (other TK at bs PL plan refl refl))
+      (λ p. by-cases (marked RS bs) (λ r. rw (e, p, r) (other TK at bs RS resource refl refl)) (λ r. rw (e, p, r, m))))
 
   -- a record that is due and stands there is handed out whole
   module _ (k : Mark) (d : due k at bs ≡ Checked.Accepted) where

@@ -67,7 +67,11 @@ fn four_at(b: &[u8], at: usize) -> u32
 fn signed(x: u32) -> i32
     ensures { λ r. ⌜ r ≡ signedOf x ⌝ }
 {
-    if x < 0x8000_0000 { x as i32 } else { (x as i64 - 0x1_0000_0000) as i32 }
+    if x < 0x8000_0000 {
+        x as i32
+    } else {
+        (x as i64 - 0x1_0000_0000) as i32
+    }
 }
 
 pub fn id_at(b: &[u8], at: usize) -> i32
@@ -96,7 +100,11 @@ fn unsigned(x: i64) -> u32
     requires { ⌜ SFits w32 x ⌝ }
     ensures { λ r. ⌜ r ≡ unsignedOf x ⌝ }
 {
-    if x < 0 { (x + 0x1_0000_0000) as u32 } else { x as u32 }
+    if x < 0 {
+        (x + 0x1_0000_0000) as u32
+    } else {
+        x as u32
+    }
 }
 
 pub fn put_one(b: &mut [u8], at: usize, n: u32)

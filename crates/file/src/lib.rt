@@ -1,7 +1,7 @@
 // Plan files: records of marked bytes, a cursor that hands them out one after another, a reader and a writer.
+mod fields;
 mod reader;
 mod writer;
-mod fields;
 
 ghost use mathlib.Core.Path.{_≡_};
 ghost use Rattle.rules.specs.Calls.{Checked, check};

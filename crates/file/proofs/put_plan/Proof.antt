@@ -77,8 +77,8 @@ returns-2 c =
     let room : length (file s) ≤ length out = omega (arith, file-length s, header .before .before .if1) in
     let stores = rw (length-resources q, length-tasks t) at (written-stores (s .args .sense) (resourcesOf q) (tasksOf t) (identified-rows q) (s .pre) out) in
     let e : tasks .put-tasks .last .0 ≡ laid (file s) out =
-          rw (tasks .put-tasks .ensures, resources .put-resources .ensures, header .put-header .ensures)
-          (sym stores ∙ sets-laid (file s) out room) in
+    rw (tasks .put-tasks .ensures, resources .put-resources .ensures, header .put-header .ensures)
+    (sym stores ∙ sets-laid (file s) out room) in
     rw (le-ltb (length out) (length (file s)) room, e, ← file-length s)
 
 pub put-plan-spec : {M : Type 1} → statement M

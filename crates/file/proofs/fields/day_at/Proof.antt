@@ -14,10 +14,10 @@ id-at-requires : tie.Need-id-at-requires
 id-at-requires c κs = search needs
 
 cast-t4 : tie.Need-cast-t4
-cast-t4 c =     let f : SFits w32 (c .id-at .result) = record { sfits = omega arith } in rw (toZ-ofZ f) (sfits-widen {w = w32} tt f)
+cast-t4 c = let f : SFits w32 (c .id-at .result) = record { sfits = omega arith } in rw (toZ-ofZ f) (sfits-widen {w = w32} tt f)
 
 returns : tie.Need-returns
-returns c =     let f : SFits w32 (c .id-at .result) = record { sfits = omega arith } in
+returns c = let f : SFits w32 (c .id-at .result) = record { sfits = omega arith } in
     rw (widened (c .id-at .result) f) (ap (λ (x : ℤ). record { 0 = x }) (c .id-at .ensures))
 
 pub day-at-spec : {M : Type 1} → statement M

@@ -21,7 +21,7 @@ cast-t7 : tie.Need-cast-t7
 cast-t7 c = search needs
 
 returns : tie.Need-returns
-returns c =     let b = c .before .before .before .before .args .b .now in
+returns c = let b = c .before .before .before .before .args .b .now in
     rw (header-places b, number-one 2 b) (cc (c .before .one-at .ensures .0, c .two-at .ensures .0))
 
 pub header-of-spec : {M : Type 1} → statement M

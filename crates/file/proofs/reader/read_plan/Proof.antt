@@ -44,8 +44,8 @@ returns c =
     let next = c .before .before .next in
     let file = s .args .file .now in
     let d : due PL 0 file ≡ Checked.Refuse (notDue PL 0 (next .result)) =
-          plan-due 0 file ∙ ap (asDue PL 0) (sym (next .ensures))
-          ∙ ap (λ (b : Bool). if b Checked.Accepted (Checked.Refuse (notDue PL 0 (next .result)))) (not-plan (next .result) (c .before .match .keys2)) in
+    plan-due 0 file ∙ ap (asDue PL 0) (sym (next .ensures))
+    ∙ ap (λ (b : Bool). if b Checked.Accepted (Checked.Refuse (notDue PL 0 (next .result)))) (not-plan (next .result) (c .before .match .keys2)) in
     let r : readPlan (s .args .places) (s .args .room) file ≡ Read.Refuse (c .not-due .result) = rw (d, c .not-due .ensures) in
     (sym (ap readAnswer r), stands-not r)
 

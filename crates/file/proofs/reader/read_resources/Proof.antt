@@ -81,11 +81,13 @@ loop-again c =
     let bs = drop at file in
     let d : due RS at bs ≡ Checked.Accepted = resource-due at bs ∙ ap (asDue RS at) (sym (next .ensures) ∙ got .1) in
     let w = same-resource (sym (got .1) ∙ next .ensures ∙ resource-whole at bs d) in
-    let past : got .0 .1 .0 .at ≡ at + 10 = ap (λ (x : Cursor). x .at) (w .1) in
-    (omega arith, omega arith,
+    let past : got .0 .1 .0 .at ≡ at + 10 = ap (λ (x : Cursor). x .at) (w .1) in (
+      omega arith,
+      omega arith,
       omega (arith, length-resources (put .last .0), length-resources (l .q), ap length (put .ensures), length-set (resourcesOf (l .q)) (l .i) (got .0 .0)),
       rw past (sym (due-step RS file n (l .i) at (omega arith) ∙ ap (λ (x : Checked). orElse x (dueFrom RS file n (l .i + 1) (at + 10))) d) ∙ l .inv .3),
-      rw (past, put .ensures, w .0) (sym (read-step RS file n resourceFrom (resourcesOf (l .q)) (l .i) at (omega arith)) ∙ l .inv .4))
+      rw (past, put .ensures, w .0) (sym (read-step RS file n resourceFrom (resourcesOf (l .q)) (l .i) at (omega arith)) ∙ l .inv .4),
+    )
 
 same-length-2 : tie.Need-same-length-2 Inv-loop μ-loop
 same-length-2 c = search needs
@@ -96,9 +98,10 @@ returns-2 c =
     let l = c .before .loop in
     let file = s .args .file .now in
     let e = sym (l .inv .3) ∙ due-end RS file (s .args .n) (l .i) (l .c .at) (omega arith) in
-    let at : l .c .at ≡ s .args .from .at + s .args .n * 10 = omega arith in
-    (rw e (ap (λ (x : ℕ). Run.Through (cursor x)) at),
-      λ a. sym (read-end RS file (s .args .n) resourceFrom (resourcesOf (l .q)) (l .i) (l .c .at) (omega arith)) ∙ l .inv .4)
+    let at : l .c .at ≡ s .args .from .at + s .args .n * 10 = omega arith in (
+      rw e (ap (λ (x : ℕ). Run.Through (cursor x)) at),
+      λ a. sym (read-end RS file (s .args .n) resourceFrom (resourcesOf (l .q)) (l .i) (l .c .at) (omega arith)) ∙ l .inv .4,
+    )
 
 pub read-resources-spec : {M : Type 1} → statement M
 read-resources-spec =

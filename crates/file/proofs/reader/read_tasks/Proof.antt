@@ -81,11 +81,13 @@ loop-again c =
     let bs = drop at file in
     let d : due TK at bs ≡ Checked.Accepted = task-due at bs ∙ ap (asDue TK at) (sym (next .ensures) ∙ got .1) in
     let w = same-task (sym (got .1) ∙ next .ensures ∙ task-whole at bs d) in
-    let past : got .0 .1 .0 .at ≡ at + 36 = ap (λ (x : Cursor). x .at) (w .1) in
-    (omega arith, omega arith,
+    let past : got .0 .1 .0 .at ≡ at + 36 = ap (λ (x : Cursor). x .at) (w .1) in (
+      omega arith,
+      omega arith,
       omega (arith, length-tasks (put .last .0), length-tasks (l .s), ap length (put .ensures), length-set (tasksOf (l .s)) (l .i) (got .0 .0)),
       rw past (sym (due-step TK file n (l .i) at (omega arith) ∙ ap (λ (x : Checked). orElse x (dueFrom TK file n (l .i + 1) (at + 36))) d) ∙ l .inv .3),
-      rw (past, put .ensures, w .0) (sym (read-step TK file n taskFrom (tasksOf (l .s)) (l .i) at (omega arith)) ∙ l .inv .4))
+      rw (past, put .ensures, w .0) (sym (read-step TK file n taskFrom (tasksOf (l .s)) (l .i) at (omega arith)) ∙ l .inv .4),
+    )
 
 same-length-2 : tie.Need-same-length-2 Inv-loop μ-loop
 same-length-2 c = search needs
@@ -96,9 +98,10 @@ returns-2 c =
     let l = c .before .loop in
     let file = s .args .file .now in
     let e = sym (l .inv .3) ∙ due-end TK file (s .args .n) (l .i) (l .c .at) (omega arith) in
-    let at : l .c .at ≡ s .args .from .at + s .args .n * 36 = omega arith in
-    (rw e (ap (λ (x : ℕ). Run.Through (cursor x)) at),
-      λ a. sym (read-end TK file (s .args .n) taskFrom (tasksOf (l .s)) (l .i) (l .c .at) (omega arith)) ∙ l .inv .4)
+    let at : l .c .at ≡ s .args .from .at + s .args .n * 36 = omega arith in (
+      rw e (ap (λ (x : ℕ). Run.Through (cursor x)) at),
+      λ a. sym (read-end TK file (s .args .n) taskFrom (tasksOf (l .s)) (l .i) (l .c .at) (omega arith)) ∙ l .inv .4,
+    )
 
 pub read-tasks-spec : {M : Type 1} → statement M
 read-tasks-spec =

@@ -55,12 +55,14 @@ loop-again c =
     let a = c .before .before .before .before .before .before .before .before .args in
     let got = c .before .before .before .resource-at in
     let put = c .before .before .put-resource in
-    let e = put .ensures ∙ ap (λ (x : Resource). sets (l .b) (l .at) (recordBytes RS (resourceNumbers x))) (got .ensures) in
-    (omega arith, omega arith,
+    let e = put .ensures ∙ ap (λ (x : Resource). sets (l .b) (l .at) (recordBytes RS (resourceNumbers x))) (got .ensures) in (
+      omega arith,
+      omega arith,
       ap length e ∙ length-sets (l .b) (l .at) (recordBytes RS (resourceNumbers _)) ∙ l .inv .2,
       rw e
-      (sym (store-step RS resourceNumbers (resourcesOf (a .q .now)) noResource (l .b) (l .at) (l .i) (omega (arith, length-resources (a .q .now)))
-      (resource-held _ (subst (λ (x : Resource). ResourceSmall x) (got .ensures) (small (c .before .before .before))))) ∙ l .inv .3))
+          (sym (store-step RS resourceNumbers (resourcesOf (a .q .now)) noResource (l .b) (l .at) (l .i) (omega (arith, length-resources (a .q .now)))
+          (resource-held _ (subst (λ (x : Resource). ResourceSmall x) (got .ensures) (small (c .before .before .before))))) ∙ l .inv .3),
+    )
 
 same-length : tie.Need-same-length Inv-loop μ-loop
 same-length c = search needs

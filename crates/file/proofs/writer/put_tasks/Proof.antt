@@ -55,12 +55,14 @@ loop-again c =
     let a = c .before .before .before .before .before .before .before .before .args in
     let got = c .before .before .before .task-at in
     let put = c .before .before .put-task in
-    let e = put .ensures ∙ ap (λ (x : Task). sets (l .b) (l .at) (recordBytes TK (taskNumbers x))) (got .ensures) in
-    (omega arith, omega arith,
+    let e = put .ensures ∙ ap (λ (x : Task). sets (l .b) (l .at) (recordBytes TK (taskNumbers x))) (got .ensures) in (
+      omega arith,
+      omega arith,
       ap length e ∙ length-sets (l .b) (l .at) (recordBytes TK (taskNumbers _)) ∙ l .inv .2,
       rw e
-      (sym (store-step TK taskNumbers (tasksOf (a .s .now)) noTask (l .b) (l .at) (l .i) (omega (arith, length-tasks (a .s .now)))
-      (task-held _ (subst (λ (x : Task). TaskSmall x) (got .ensures) (small (c .before .before .before))))) ∙ l .inv .3))
+          (sym (store-step TK taskNumbers (tasksOf (a .s .now)) noTask (l .b) (l .at) (l .i) (omega (arith, length-tasks (a .s .now)))
+          (task-held _ (subst (λ (x : Task). TaskSmall x) (got .ensures) (small (c .before .before .before))))) ∙ l .inv .3),
+    )
 
 same-length : tie.Need-same-length Inv-loop μ-loop
 same-length c = search needs
