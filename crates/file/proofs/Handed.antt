@@ -1,5 +1,5 @@
 -- What is due, told from what the reader hands out.
-use mathlib.Core.Path.{_≡_, refl, sym, _∙_}
+use mathlib.Core.Path.{_≡_, refl, sym, ap, _∙_}
 use mathlib.Core.Bool.{Bool, true, false}
 use mathlib.Core.List.{List, [], _∷_}
 use Prim.Native.Nat.{ℕ, _+_, _-_}
@@ -175,3 +175,34 @@ same-resource e = (cc, cc)
 
 pub same-task : {t u : Task} {c d : Cursor} → Record.Task t c ≡ Record.Task u d → (t ≡ u) × (c ≡ d)
 same-task e = (cc, cc)
+
+-- ---- an answer taken, and an answer refused
+module _ (at : ℕ) (bs : List ℕ) {r : Record} (e : r ≡ handed at bs) where
+  pub plan-taken : {h : Header} {c : Cursor} → r ≡ Record.Plan h c → (due PL at bs ≡ Checked.Accepted) × (h ≡ headerFrom (numbersIn PL bs))
+  plan-taken g =
+      let d = plan-due at bs ∙ ap (asDue PL at) (sym e ∙ g) in (d, same-plan (sym g ∙ e ∙ plan-whole at bs d) .0)
+
+  pub resource-taken : {q : Resource} {c : Cursor} → r ≡ Record.Resource q c → (due RS at bs ≡ Checked.Accepted) × (q ≡ resourceFrom (numbersIn RS bs)) × (c .at ≡ at + 10)
+  resource-taken g =
+      let d = resource-due at bs ∙ ap (asDue RS at) (sym e ∙ g) in
+      let w = same-resource (sym g ∙ e ∙ resource-whole at bs d) in
+      (d, w .0, ap (λ (x : Cursor). x .at) (w .1))
+
+  pub task-taken : {t : Task} {c : Cursor} → r ≡ Record.Task t c → (due TK at bs ≡ Checked.Accepted) × (t ≡ taskFrom (numbersIn TK bs)) × (c .at ≡ at + 36)
+  task-taken g =
+      let d = task-due at bs ∙ ap (asDue TK at) (sym e ∙ g) in
+      let w = same-task (sym g ∙ e ∙ task-whole at bs d) in
+      (d, w .0, ap (λ (x : Cursor). x .at) (w .1))
+
+  refusing : (k : Mark) → due k at bs ≡ asDue k at (handed at bs) → holds k r ≡ false → due k at bs ≡ Checked.Refuse (notDue k at r)
+  refusing k d o =
+      d ∙ ap (asDue k at) (sym e) ∙ ap (λ (b : Bool). if b Checked.Accepted (Checked.Refuse (notDue k at r))) o
+
+  pub plan-refused : OneOf (1 ∷ 2 ∷ 3 ∷ 4 ∷ 5 ∷ []) (Declared.tagOf Record'.the-type r) → due PL at bs ≡ Checked.Refuse (notDue PL at r)
+  plan-refused o = refusing PL (plan-due at bs) (not-plan r o)
+
+  pub resource-refused : OneOf (0 ∷ 2 ∷ 3 ∷ 4 ∷ 5 ∷ []) (Declared.tagOf Record'.the-type r) → due RS at bs ≡ Checked.Refuse (notDue RS at r)
+  resource-refused o = refusing RS (resource-due at bs) (not-resource r o)
+
+  pub task-refused : OneOf (0 ∷ 1 ∷ 3 ∷ 4 ∷ 5 ∷ []) (Declared.tagOf Record'.the-type r) → due TK at bs ≡ Checked.Refuse (notDue TK at r)
+  task-refused o = refusing TK (task-due at bs) (not-task r o)
