@@ -1,2 +1,3 @@
 -- What the balance step's sums need, and what it leaves.
 pub mod Fits
+pub mod Keeps

@@ -1,10 +1,7 @@
 // The balance step: origin + duration = end, each of the three cut to what the other two leave. Every cut is worked out from the
 // ranges as they entered.
 ghost use mathlib.Core.Path.{_≡_};
-ghost use mathlib.Core.Bool.{Bool, true};
-ghost use mathlib.Core.List.{List};
-ghost use Prim.Native.Nat.{ℕ};
-ghost use lib.ListN.{length};
+ghost use mathlib.Core.Bool.{true};
 ghost use Rattle.rules.specs.Balance.{cuts, unlessEmpty, balanced, balance};
 ghost use Rattle.rows.specs.View.{tasksOf};
 ghost use Rattle.rows.specs.Fits.{Bounded, AllBounded};

@@ -1,9 +1,8 @@
 // The entry checks, refusals 1 to 6 in the paper's order, over rows of any numbers and of any length.
 ghost use mathlib.Core.Path.{_≡_};
-ghost use mathlib.Core.Bool.{Bool};
 ghost use mathlib.Core.List.{List, []};
-ghost use Prim.Native.Nat.{ℕ, _≤_, _<_};
-ghost use lib.ListN.{length, take, getD};
+ghost use Prim.Native.Nat.{_≤_, _<_};
+ghost use lib.ListN.{length, getD};
 ghost use Rattle.integers.specs.Tests.{any};
 ghost use Rattle.integers.specs.Whole.{eqZ};
 ghost use Rattle.plan.specs.declared.Task.{Task};

@@ -5,8 +5,6 @@ use mathlib.Core.List.{List, [], _∷_, _++_, map, map-append}
 use Prim.Native.Nat.{ℕ, zero, suc}
 use lib.IntN.{ℤ}
 use lib.ListN.{length, take, drop, getD, set, length-map, List·getD-map}
-use Rattle.plan.specs.declared.Task.{Task}
-use Rattle.plan.specs.declared.Resource.{Resource}
 use Rattle.rows.specs.View.{taskOf, noTask, tasksOf, resourceOf, noResource, resourcesOf}
 
 -- ---- over any function

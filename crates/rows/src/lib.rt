@@ -1,8 +1,7 @@
 // The core's lists: a task stands in a row of nine numbers, a resource in a row of two, a list is a lent slice of rows.
 // Slices of rows of numbers are lent and changed in place; the view in specs/ says which tasks and resources they hold.
 ghost use mathlib.Core.Path.{_≡_};
-ghost use mathlib.Core.Bool.{Bool};
-ghost use Prim.Native.Nat.{ℕ, _<_};
+ghost use Prim.Native.Nat.{_<_};
 ghost use mir.Syntax.{w64};
 ghost use mir.Val.{ofZ};
 ghost use lib.ListN.{length, getD, set};

@@ -1,16 +1,14 @@
 -- From the front: the first i tasks are done, the others as they entered, and what is left to do gives the answer.
-use lib.ListN.{getD}
+use lib.ListN.{getD, length}
 use Rattle.plan.specs.declared.Narrowed.the-variants.{Kept, RanOut}
 use Rattle.integers.proofs.Tests.{clash}
 use mathlib.Core.Bool.{false}
-use Rattle.rows.specs.View.{noTask}
+use Rattle.rows.specs.View.{noTask, tasksOf}
 use Rattle.rows.specs.Fits.{Bounded}
 use native.Mathlib.Omega.{arith}
-use mathlib.Core.Path.{_≡_, refl, sym, ap, _∙_}
+use mathlib.Core.Path.{_≡_, refl, sym, _∙_}
 use Prim.Native.Nat.{_≤_, _<_, _-_}
-use lib.ListN.{length}
 use Rattle.rules.specs.Balance.{balanced, balance}
-use Rattle.rows.specs.View.{tasksOf}
 use Rattle.rows.proofs.View.{length-tasks}
 use Rattle.rows.proofs.Walk.{Walk, walk-start, walk-next, walk-kept, walk-out, walk-end}
 use borrow.Author.Needs.{needs}

@@ -1,14 +1,12 @@
 -- The limits from place k on give the answer.
 use mathlib.Core.Bool.{true, false}
-use lib.ListN.{getD}
+use lib.ListN.{getD, length}
 use Rattle.plan.specs.Powers.{powerFits}
-use Rattle.rows.specs.View.{noResource}
-use mathlib.Core.Path.{_≡_, refl, sym, _∙_}
+use Rattle.rows.specs.View.{noResource, resourcesOf}
+use mathlib.Core.Path.{_≡_, sym, _∙_}
 use Prim.Native.Nat.{_≤_, _<_, _-_}
-use lib.ListN.{length}
 use native.Mathlib.Omega.{arith}
 use Rattle.rules.specs.Calls.{limits}
-use Rattle.rows.specs.View.{resourcesOf}
 use Rattle.rows.proofs.View.{length-resources}
 use Rattle.entry.proofs.Checks.{limitsFrom, limits-start, limits-past, limits-here, limits-end}
 use borrow.Author.Needs.{needs}

@@ -1,14 +1,11 @@
 -- The tasks from place k on give the answer.
 use mathlib.Core.Bool.{true, false}
-use lib.ListN.{getD}
-use Rattle.rules.specs.Calls.{rangesFit, setFits}
-use Rattle.rows.specs.View.{noTask}
-use mathlib.Core.Path.{_≡_, refl, sym, _∙_}
+use lib.ListN.{getD, length}
+use Rattle.rules.specs.Calls.{rangesFit, setFits, tasksFit}
+use Rattle.rows.specs.View.{noTask, tasksOf}
+use mathlib.Core.Path.{_≡_, sym, _∙_}
 use Prim.Native.Nat.{_≤_, _<_, _-_}
-use lib.ListN.{length}
 use native.Mathlib.Omega.{arith}
-use Rattle.rules.specs.Calls.{tasksFit}
-use Rattle.rows.specs.View.{tasksOf}
 use Rattle.rows.proofs.View.{length-tasks}
 use Rattle.entry.proofs.Checks.{tasksFrom, tasks-start, tasks-past, range-here, set-here, tasks-end}
 use borrow.Author.Needs.{needs}

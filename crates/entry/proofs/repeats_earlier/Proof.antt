@@ -1,11 +1,8 @@
 -- The resources before k, from the latest back: what is left of them to look at gives the answer.
-use mathlib.Core.Bool.{Bool, true, false}
-use lib.IntN.{ℤ}
-use Rattle.integers.specs.Tests.{or}
-use Rattle.plan.specs.declared.Resource.{Resource}
+use mathlib.Core.Bool.{true, false}
 use mathlib.Core.Path.{_≡_, refl, sym, _∙_}
-use Prim.Native.Nat.{_≤_, _<_, _-_}
-use lib.ListN.{length, getD}
+use Prim.Native.Nat.{_≤_, _-_}
+use lib.ListN.{getD}
 use native.Mathlib.Omega.{arith}
 use Rattle.integers.specs.Tests.{any}
 use Rattle.integers.specs.Whole.{eqZ}

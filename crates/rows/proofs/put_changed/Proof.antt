@@ -1,9 +1,8 @@
 -- A task that is the same needs no store.
 use mathlib.Core.Bool.{true, false}
-use lib.ListN.{getD}
+use lib.ListN.{getD, set}
 use Rattle.rules.specs.Settle.{sameTask}
 use mathlib.Core.Path.{_≡_, sym, ap, _∙_}
-use lib.ListN.{set}
 use lib.Seq.{set-getD}
 use Rattle.rows.specs.Changes.{union}
 use Rattle.rows.specs.View.{tasksOf, noTask}
