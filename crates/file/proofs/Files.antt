@@ -1,6 +1,6 @@
 -- Whole files: a written plan is read back as itself, and a file that is read is the writing of what was read.
 use mathlib.Core.Path.{_≡_, refl, sym, ap, _∙_, subst}
-use mathlib.Core.Bool.{Bool, true, false}
+use mathlib.Core.Bool.{true, false}
 use mathlib.Core.List.{List, [], _∷_, _++_, map, append-nil}
 use Prim.Native.Nat.{ℕ, zero, suc, _+_, _*_, _≤_, _<_}
 use native.Mathlib.Omega.{arith}
@@ -19,16 +19,15 @@ use Rattle.plan.specs.declared.Refusal.{Refusal}
 use Rattle.plan.specs.declared.Refusal.the-variants.{WrongMark, CutShort, TooManyTasks, ResourceCount, ListShort}
 use Rattle.rows.specs.View.{taskOf, tasksOf, resourceOf, resourcesOf}
 use Rattle.rules.specs.Calls.{Checked, orElse, refuseIf, check, mostTasks, mostResources}
-use Rattle.file.specs.declared.Mark.{Mark}
 use Rattle.file.specs.declared.Mark.the-variants.{PL, RS, TK}
 use Rattle.file.specs.declared.Header.{Header}
 use Rattle.file.specs.declared.ReadAnswer.{ReadAnswer}
-use Rattle.file.specs.Format.{widths, size, recordBytes, fieldsIn, numbersIn, headerNumbers, headerFrom, resourceNumbers, resourceFrom, taskNumbers, taskFrom, senseNumber, senseFrom}
-use Rattle.file.specs.Writing.{recordsBytes, ResourceSmall, TaskSmall, Each, nothing, also, headerOf, written, laid}
+use Rattle.file.specs.Format.{widths, recordBytes, fieldsIn, numbersIn, headerNumbers, headerFrom, resourceNumbers, resourceFrom, taskNumbers, taskFrom, senseNumber, senseFrom}
+use Rattle.file.specs.Writing.{recordsBytes, Each, nothing, also, headerOf, written, laid}
 use Rattle.file.specs.Reading.{due, eachDue, recordsIn, headerIn, tasksFrom, fileEnd, resourcesIn, tasksIn, headerDue, bodyDue, shapeDue, Read, readUnless, readPlan, readAnswer, readResult, readInto, Stands}
 use Rattle.file.proofs.Numbers.{AllBytes, room, bytes-drop}
 use Rattle.file.proofs.Stores.{sets-append, copied}
-use Rattle.file.proofs.Records.{Held, none, more, both, then-first, then-second, unrefused, held-fields, length-record, numbers-record, due-record, due-length, record-numbers, length-records, due-records, numbers-records, length-recordsIn, due-total, records-numbers, records-held}
+use Rattle.file.proofs.Records.{Held, none, more, then-first, then-second, unrefused, length-record, numbers-record, due-record, record-numbers, length-records, due-records, numbers-records, length-recordsIn, records-numbers, records-held}
 use Rattle.file.proofs.Passed.{neither-first, neither-second, Identified, Passed, passed, resource-held, resource-back, task-held, task-back, resource-numbers, task-numbers, resource-identified}
 
 -- ---- a list mapped there and back
@@ -208,7 +207,7 @@ few places space h e =
       resources = ltb-false mostResources (h .resources) (neither-second none more c);
       tasks = ltb-false mostTasks (h .tasks) (unrefused (ltb mostTasks (h .tasks)) TooManyTasks (then-first many (orElse count lists) p));
       listed = ltb-false places (h .resources) (neither-first short narrow l);
-      room = ltb-false space (h .tasks) (neither-second short narrow l)
+      room = ltb-false space (h .tasks) (neither-second short narrow l);
     }
 
 pub length-resourcesIn : (h : Header) (file : List ℕ) → length (resourcesIn h file) ≡ h .resources
@@ -362,8 +361,8 @@ pub stands-is : {x : Read} {sense : Sense} {rs later : List Resource} {us after 
 stands-is {later} {after} e p q =
     record {
       stands = λ g.
-        let w = same-read (sym e ∙ g) in
-        (subst (λ (l : List Resource). take (length l) later ≡ l) (w .1) p, subst (λ (l : List Task). take (length l) after ≡ l) (w .2) q)
+          let w = same-read (sym e ∙ g) in
+          (subst (λ (l : List Resource). take (length l) later ≡ l) (w .1) p, subst (λ (l : List Task). take (length l) after ≡ l) (w .2) q);
     }
 
 -- ---- what an answer tells of the plan behind it
@@ -386,9 +385,10 @@ module _ (places space : ℕ) (file : List ℕ) where
       let f = counts places space file (then-first (shapeDue places space h file) checks (read-accepted due plan e)) in
       let w = same-read (read-is due plan e) in
       let r = ap length (w .1) in
-      let t = ap length (w .2) in
-      ((omega (arith, length-resourcesIn h file, f .resources), omega (arith, length-resourcesIn h file, f .listed)),
-        (omega (arith, length-tasksIn h file, f .tasks), omega (arith, length-tasksIn h file, f .room)))
+      let t = ap length (w .2) in (
+        (omega (arith, length-resourcesIn h file, f .resources), omega (arith, length-resourcesIn h file, f .listed)),
+        (omega (arith, length-tasksIn h file, f .tasks), omega (arith, length-tasksIn h file, f .room)),
+      )
 
   told-by : {sense : Sense} {n m : ℕ} (x : Read) → readPlan places space file ≡ x → readAnswer x ≡ ReadAnswer.Plan sense n m → Told places space file sense n m
   told-by {sense} {n} {m} (Read.Plan s rs us) e g =
@@ -400,7 +400,7 @@ module _ (places space : ℕ) (file : List ℕ) where
         is = e ∙ ap (λ (t : Sense). Read.Plan t rs us) (w .0);
         counted = (sym (w .1), sym (w .2));
         few-resources = (omega (arith, w .1, b .0 .0), omega (arith, w .1, b .0 .1));
-        few-tasks = (omega (arith, w .2, b .1 .0), omega (arith, w .2, b .1 .1))
+        few-tasks = (omega (arith, w .2, b .1 .0), omega (arith, w .2, b .1 .1));
       }
   told-by (Read.Refuse f) e g = absurd (never g)
 

@@ -1,8 +1,8 @@
 -- What is due, told from what the reader hands out.
 use mathlib.Core.Path.{_≡_, refl, sym, ap, _∙_}
-use mathlib.Core.Bool.{Bool, true, false, not}
-use mathlib.Core.List.{List, [], _∷_, _++_, map}
-use Prim.Native.Nat.{ℕ, zero, suc, _+_, _-_, _*_, _≤_, _<_}
+use mathlib.Core.Bool.{Bool, true, false}
+use mathlib.Core.List.{List, [], _∷_}
+use Prim.Native.Nat.{ℕ, _+_, _-_}
 use native.Mathlib.Omega.{arith}
 use lib.Dec.{eqb, ltb}
 use lib.ListN.{length, getD}
@@ -11,13 +11,12 @@ use mathlib.Core.Logic.{⊎-elim}
 use types.Run.{OneOf}
 use denote.Enum.Declared
 use Rattle.file.proofs.Record as Record'
-use Rattle.integers.specs.Tests.{if, and}
-use Rattle.integers.proofs.Tests.{by-cases, if-case, and-first, false-in, clash}
+use Rattle.integers.specs.Tests.{if}
+use Rattle.integers.proofs.Tests.{by-cases, and-first, false-in, clash}
 use Rattle.plan.specs.declared.Task.{Task}
 use Rattle.plan.specs.declared.Resource.{Resource}
-use Rattle.plan.specs.declared.Refusal.{Refusal}
 use Rattle.plan.specs.declared.Refusal.the-variants.{WrongMark, CutShort}
-use Rattle.rules.specs.Calls.{Checked, orElse, refuseIf}
+use Rattle.rules.specs.Calls.{Checked, refuseIf}
 use Rattle.file.specs.declared.Mark.{Mark}
 use Rattle.file.specs.declared.Mark.the-variants.{PL, RS, TK}
 use Rattle.file.specs.declared.Header.{Header}
@@ -45,10 +44,10 @@ unfolding marked
 apart j k bs e m =
     false-in (marked k bs)
     (λ n.
-      let a = getD bs 0 0 in
-      let p = eqb-true a (getD (mark j) 0 0) (and-first (eqb a (getD (mark j) 0 0)) (eqb (getD bs 1 0) (getD (mark j) 1 0)) m) in
-      let q = eqb-true a (getD (mark k) 0 0) (and-first (eqb a (getD (mark k) 0 0)) (eqb (getD bs 1 0) (getD (mark k) 1 0)) n) in
-      clash (sameMark j k) (eq-eqb (getD (mark j) 0 0) (getD (mark k) 0 0) (sym p ∙ q)) e)
+    let a = getD bs 0 0 in
+    let p = eqb-true a (getD (mark j) 0 0) (and-first (eqb a (getD (mark j) 0 0)) (eqb (getD bs 1 0) (getD (mark j) 1 0)) m) in
+    let q = eqb-true a (getD (mark k) 0 0) (and-first (eqb a (getD (mark k) 0 0)) (eqb (getD bs 1 0) (getD (mark k) 1 0)) n) in
+    clash (sameMark j k) (eq-eqb (getD (mark j) 0 0) (getD (mark k) 0 0) (sym p ∙ q)) e)
 
 module _ (k : Mark) (at : ℕ) (bs : List ℕ) where
   own : (r : Record) → sameMark k k ≡ true → holds k r ≡ true → asDue k at (whole k bs r) ≡ refuseIf (ltb (length bs) (size k)) (CutShort at)
@@ -77,39 +76,39 @@ module _ (k : Mark) (at : ℕ) (bs : List ℕ) where
 
 module _ (at : ℕ) (bs : List ℕ) where
   -- the three records, where they are whole
-  a : Record
-  a = Record.Plan (headerFrom (numbersIn PL bs)) (cursor (at + 6))
+  plan : Record
+  plan = Record.Plan (headerFrom (numbersIn PL bs)) (cursor (at + 6))
 
-  b : Record
-  b = Record.Resource (resourceFrom (numbersIn RS bs)) (cursor (at + 10))
+  resource : Record
+  resource = Record.Resource (resourceFrom (numbersIn RS bs)) (cursor (at + 10))
 
-  t : Record
-  t = Record.Task (taskFrom (numbersIn TK bs)) (cursor (at + 36))
+  task : Record
+  task = Record.Task (taskFrom (numbersIn TK bs)) (cursor (at + 36))
 
-  from-tk : (k : Mark) → ltb (length bs) 2 ≡ false → marked PL bs ≡ false → marked RS bs ≡ false → sameMark TK k ≡ false → asDue k at t ≡ Checked.Refuse (WrongMark at) → asDue k at (handed at bs) ≡ Checked.Refuse (WrongMark at)
-  unfolding handed t
+  from-tk : (k : Mark) → ltb (length bs) 2 ≡ false → marked PL bs ≡ false → marked RS bs ≡ false → sameMark TK k ≡ false → asDue k at task ≡ Checked.Refuse (WrongMark at) → asDue k at (handed at bs) ≡ Checked.Refuse (WrongMark at)
+  unfolding handed task
   from-tk k e p r s h =
-      by-cases (marked TK bs) (λ m. rw (e, p, r, m) (other k at bs TK t s h)) (λ m. rw (e, p, r, m))
+      by-cases (marked TK bs) (λ m. rw (e, p, r, m) (other k at bs TK task s h)) (λ m. rw (e, p, r, m))
 
   pub plan-due : due PL at bs ≡ asDue PL at (handed at bs)
-  unfolding handed Right Wrong a b t
+  unfolding handed Right Wrong plan resource task
   plan-due =
-      due-by PL at bs (λ e m. rw (e, m) (own PL at bs a refl refl))
-      (λ e m. by-cases (marked RS bs) (λ r. rw (e, m, r) (other PL at bs RS b refl refl)) (λ r. from-tk PL e m r refl refl))
+      due-by PL at bs (λ e m. rw (e, m) (own PL at bs plan refl refl))
+      (λ e m. by-cases (marked RS bs) (λ r. rw (e, m, r) (other PL at bs RS resource refl refl)) (λ r. from-tk PL e m r refl refl))
 
   pub resource-due : due RS at bs ≡ asDue RS at (handed at bs)
-  unfolding handed Right Wrong a b t
+  unfolding handed Right Wrong plan resource task
   resource-due =
-      due-by RS at bs (λ e m. rw (e, apart RS PL bs refl m, m) (own RS at bs b refl refl))
-      (λ e m. by-cases (marked PL bs) (λ p. rw (e, p) (other RS at bs PL a refl refl)) (λ p. from-tk RS e p m refl refl))
+      due-by RS at bs (λ e m. rw (e, apart RS PL bs refl m, m) (own RS at bs resource refl refl))
+      (λ e m. by-cases (marked PL bs) (λ p. rw (e, p) (other RS at bs PL plan refl refl)) (λ p. from-tk RS e p m refl refl))
 
   pub task-due : due TK at bs ≡ asDue TK at (handed at bs)
-  unfolding handed Right Wrong a b t
+  unfolding handed Right Wrong plan resource task
   task-due =
-      due-by TK at bs (λ e m. rw (e, apart TK PL bs refl m, apart TK RS bs refl m, m) (own TK at bs t refl refl))
+      due-by TK at bs (λ e m. rw (e, apart TK PL bs refl m, apart TK RS bs refl m, m) (own TK at bs task refl refl))
       (λ e m.
-        by-cases (marked PL bs) (λ p. rw (e, p) (other TK at bs PL a refl refl))
-        (λ p. by-cases (marked RS bs) (λ r. rw (e, p, r) (other TK at bs RS b refl refl)) (λ r. rw (e, p, r, m))))
+      by-cases (marked PL bs) (λ p. rw (e, p) (other TK at bs PL plan refl refl))
+      (λ p. by-cases (marked RS bs) (λ r. rw (e, p, r) (other TK at bs RS resource refl refl)) (λ r. rw (e, p, r, m))))
 
   -- a record that is due and stands there is handed out whole
   module _ (k : Mark) (d : due k at bs ≡ Checked.Accepted) where
@@ -176,3 +175,34 @@ same-resource e = (cc, cc)
 
 pub same-task : {t u : Task} {c d : Cursor} → Record.Task t c ≡ Record.Task u d → (t ≡ u) × (c ≡ d)
 same-task e = (cc, cc)
+
+-- ---- an answer taken, and an answer refused
+module _ (at : ℕ) (bs : List ℕ) {r : Record} (e : r ≡ handed at bs) where
+  pub plan-taken : {h : Header} {c : Cursor} → r ≡ Record.Plan h c → (due PL at bs ≡ Checked.Accepted) × (h ≡ headerFrom (numbersIn PL bs))
+  plan-taken g =
+      let d = plan-due at bs ∙ ap (asDue PL at) (sym e ∙ g) in (d, same-plan (sym g ∙ e ∙ plan-whole at bs d) .0)
+
+  pub resource-taken : {q : Resource} {c : Cursor} → r ≡ Record.Resource q c → (due RS at bs ≡ Checked.Accepted) × (q ≡ resourceFrom (numbersIn RS bs)) × (c .at ≡ at + 10)
+  resource-taken g =
+      let d = resource-due at bs ∙ ap (asDue RS at) (sym e ∙ g) in
+      let w = same-resource (sym g ∙ e ∙ resource-whole at bs d) in
+      (d, w .0, ap (λ (x : Cursor). x .at) (w .1))
+
+  pub task-taken : {t : Task} {c : Cursor} → r ≡ Record.Task t c → (due TK at bs ≡ Checked.Accepted) × (t ≡ taskFrom (numbersIn TK bs)) × (c .at ≡ at + 36)
+  task-taken g =
+      let d = task-due at bs ∙ ap (asDue TK at) (sym e ∙ g) in
+      let w = same-task (sym g ∙ e ∙ task-whole at bs d) in
+      (d, w .0, ap (λ (x : Cursor). x .at) (w .1))
+
+  refusing : (k : Mark) → due k at bs ≡ asDue k at (handed at bs) → holds k r ≡ false → due k at bs ≡ Checked.Refuse (notDue k at r)
+  refusing k d o =
+      d ∙ ap (asDue k at) (sym e) ∙ ap (λ (b : Bool). if b Checked.Accepted (Checked.Refuse (notDue k at r))) o
+
+  pub plan-refused : OneOf (1 ∷ 2 ∷ 3 ∷ 4 ∷ 5 ∷ []) (Declared.tagOf Record'.the-type r) → due PL at bs ≡ Checked.Refuse (notDue PL at r)
+  plan-refused o = refusing PL (plan-due at bs) (not-plan r o)
+
+  pub resource-refused : OneOf (0 ∷ 2 ∷ 3 ∷ 4 ∷ 5 ∷ []) (Declared.tagOf Record'.the-type r) → due RS at bs ≡ Checked.Refuse (notDue RS at r)
+  resource-refused o = refusing RS (resource-due at bs) (not-resource r o)
+
+  pub task-refused : OneOf (0 ∷ 1 ∷ 3 ∷ 4 ∷ 5 ∷ []) (Declared.tagOf Record'.the-type r) → due TK at bs ≡ Checked.Refuse (notDue TK at r)
+  task-refused o = refusing TK (task-due at bs) (not-task r o)

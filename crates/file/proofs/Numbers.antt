@@ -1,5 +1,5 @@
 -- Laws of numbers in bytes: so many bytes to a number and back, and a number's low and high bytes apart.
-use mathlib.Core.Path.{_≡_, refl, sym, ap, _∙_}
+use mathlib.Core.Path.{_≡_, refl, ap}
 use mathlib.Core.Bool.{Bool, true}
 use mathlib.Core.List.{List, [], _∷_, _++_}
 use Prim.Native.Nat.{ℕ, zero, suc, _+_, _*_, _/_, _%_, _≤_, _<_}
@@ -9,11 +9,11 @@ use lib.IntN.{ℤ}
 use mir.Syntax.{w32, w64}
 use mir.Val.{SFits, toZ, ofZ}
 use mir.Facts.{toZ-ofZ, sfits-widen}
-use native.Mathlib.Nat.{zero-add, suc-add, mul-assoc, div-one, div-div-eq-div-mul, not-suc-le-zero, le-of-suc-le-suc, add-suc}
-use lib.ListN.{length, getD, take, drop, set, length-drop}
-use lib.Seq.{drop-drop, sets, sets-eq}
+use native.Mathlib.Nat.{zero-add, suc-add, mul-assoc, div-one, div-div-eq-div-mul, not-suc-le-zero, le-of-suc-le-suc}
+use lib.ListN.{length, getD, take, drop, length-drop}
+use lib.Seq.{drop-drop}
 use borrow.Author.Tests.{ltb-true}
-use Rattle.integers.specs.Tests.{and, all}
+use Rattle.integers.specs.Tests.{all}
 use Rattle.integers.proofs.Tests.{and-first, and-second, and-in}
 use Rattle.file.specs.Numbers.{bytesOf, numberOf}
 

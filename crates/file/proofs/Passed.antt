@@ -1,16 +1,16 @@
 -- What a plan that passes the checks has: counts and numbers that its file's fields hold; and the numbers of a record back and forth.
-use mathlib.Core.Path.{_≡_, refl, sym, ap, _∙_, subst}
+use mathlib.Core.Path.{_≡_, refl}
 use mathlib.Core.Bool.{Bool, true, false, not}
-use mathlib.Core.List.{List, [], _∷_, map}
-use Prim.Native.Nat.{ℕ, zero, suc, _+_, _≤_, _<_, _^_}
+use mathlib.Core.List.{List, [], _∷_}
+use Prim.Native.Nat.{ℕ, suc, _≤_, _<_, _^_}
 use native.Mathlib.Omega.{arith}
 use native.Mathlib.Nat.{pow-le-pow-right, lt-of-lt-of-le}
 use lib.Dec.{eqb, ltb}
 use lib.IntN.{ℤ, pos, negsuc}
 use lib.Signed.{leZ, ltZ, _≤ℤ_}
-use lib.ListN.{length, getD}
+use lib.ListN.{length}
 use mir.Syntax.{w32}
-use mir.Val.{SFits, Fits, toZ, ofZ}
+use mir.Val.{SFits, toZ, ofZ}
 use mir.Facts.{fits-ofZ, toZ-ofZ, ofZ-toZ, sfits-toZ}
 use borrow.Author.Tests.{ltb-true, ltb-false, eqb-false, not-false}
 use Rattle.integers.specs.Tests.{and, or}
@@ -18,14 +18,12 @@ use Rattle.integers.proofs.Tests.{and-first, and-second, by-cases, clash}
 use Rattle.integers.proofs.Z.{z}
 use Rattle.plan.specs.declared.Task.{Task}
 use Rattle.plan.specs.declared.Resource.{Resource}
-use Rattle.plan.specs.declared.Span.{Span}
-use Rattle.plan.specs.declared.Refusal.{Refusal}
 use Rattle.plan.specs.declared.Refusal.the-variants.{TooManyTasks, ResourceCount, LimitOutside, RangeOutside, SetOutside}
 use Rattle.plan.specs.Days.{dayLow, dayHigh, durationLow, durationHigh, spanFits}
 use Rattle.plan.specs.Powers.{powerLow, powerHigh, powerFits, powersFit}
 use Rattle.rows.specs.View.{cell, idOf, resourceOf, resourcesOf}
 use Rattle.rules.specs.Calls.{Checked, orElse, refuseIf, check, repeats, limits, rangesFit, setFits, tasksFit, mostTasks, mostResources}
-use Rattle.file.specs.declared.Mark.the-variants.{PL, RS, TK}
+use Rattle.file.specs.declared.Mark.the-variants.{RS, TK}
 use Rattle.file.specs.Format.{widths, resourceNumbers, resourceFrom, taskNumbers, taskFrom}
 use Rattle.file.specs.Writing.{Small, TaskSmall, ResourceSmall, Each, nothing, also}
 use Rattle.file.proofs.Numbers.{room}

@@ -4,14 +4,11 @@ use mathlib.Core.List.{List, [], _∷_}
 use Prim.Native.Nat.{ℕ, _+_}
 use lib.ListN.{take, drop}
 use lib.Seq.{drop-drop}
-use Rattle.plan.specs.declared.Task.{Task}
-use Rattle.plan.specs.declared.Resource.{Resource}
 use Rattle.plan.specs.declared.Span.{Span}
 use Rattle.plan.specs.declared.PowerSpan.{PowerSpan}
 use Rattle.plan.specs.Days.{day}
 use Rattle.plan.specs.Powers.{power}
 use Rattle.file.specs.declared.Mark.the-variants.{PL, RS, TK}
-use Rattle.file.specs.declared.Header.{Header}
 use Rattle.file.specs.Numbers.{numberOf, signedOf}
 use Rattle.file.specs.Format.{widths, fieldsIn, numbersIn, headerFrom, resourceFrom, taskFrom}
 

@@ -1,16 +1,15 @@
 -- Laws of records: a record's numbers from its bytes and back, for any table of widths.
 use mathlib.Core.Path.{_≡_, refl, sym, ap, _∙_, subst}
 use mathlib.Core.Bool.{Bool, true, false, not}
-use mathlib.Core.List.{List, [], _∷_, _++_, append-assoc, append-nil}
-use Prim.Native.Nat.{ℕ, zero, suc, _+_, _-_, _*_, _≤_, _<_, min}
+use mathlib.Core.List.{List, [], _∷_, _++_, append-assoc}
+use Prim.Native.Nat.{ℕ, zero, suc, _+_, _-_, _*_, _≤_, _<_}
 use native.Mathlib.Omega.{arith}
 use native.Mathlib.Nat.{not-suc-le-zero, le-of-suc-le-suc, suc-mul, zero-mul, add-comm}
 use lib.Dec.{eqb, ltb}
-use lib.ListN.{length, getD, take, drop, length-append, length-take, length-drop, take-append-drop}
-use lib.Seq.{length-take-le, take-at, drop-at, take-add, drop-drop}
+use lib.ListN.{length, getD, take, drop, length-append, length-drop}
+use lib.Seq.{length-take-le, take-at, drop-at, take-add}
 use borrow.Author.Tests.{ltb-false, le-ltb, eqb-true, not-false}
-use Rattle.integers.specs.Tests.{and}
-use Rattle.integers.proofs.Tests.{and-first, and-second, not-out}
+use Rattle.integers.proofs.Tests.{and-first, and-second}
 use Rattle.rules.specs.Calls.{Checked, orElse, refuseIf}
 use Rattle.plan.specs.declared.Refusal.{Refusal}
 use Rattle.plan.specs.declared.Refusal.the-variants.{WrongMark, CutShort}
@@ -30,9 +29,6 @@ then-first (Checked.Refuse f) b h = h
 pub then-second : (a b : Checked) → orElse a b ≡ Checked.Accepted → b ≡ Checked.Accepted
 then-second Checked.Accepted b h = h
 then-second (Checked.Refuse f) b h = cc
-
-pub both : (a b : Checked) → a ≡ Checked.Accepted → b ≡ Checked.Accepted → orElse a b ≡ Checked.Accepted
-both a b h k = rw h k
 
 pub unrefused : (t : Bool) (f : Refusal) → refuseIf t f ≡ Checked.Accepted → t ≡ false
 unrefused true f h = cc
@@ -203,15 +199,6 @@ module _ (k : Mark) where
   unfolding recordsIn
   length-recordsIn zero bs = refl
   length-recordsIn (suc n) bs = ap suc (length-recordsIn n (drop (size k) bs))
-
-  pub due-total : (n at : ℕ) (bs : List ℕ) → eachDue k n at bs ≡ Checked.Accepted → n * size k ≤ length bs
-  unfolding eachDue
-  due-total zero at bs h = omega arith
-  due-total (suc n) at bs h =
-      let rest = eachDue k n (at + size k) (drop (size k) bs) in
-      let own = due-length k at bs (then-first (due k at bs) rest h) in
-      let later = due-total n (at + size k) (drop (size k) bs) (then-second (due k at bs) rest h) in
-      omega (arith, suc-mul n (size k), length-drop (size k) bs)
 
   pub records-numbers : (n at : ℕ) (bs : List ℕ) → eachDue k n at bs ≡ Checked.Accepted → AllBytes bs ≡ true → recordsBytes k (recordsIn k n bs) ≡ take (n * size k) bs
   unfolding eachDue recordsIn recordsBytes

@@ -1,7 +1,7 @@
 -- ROUND TRIPS. An accepted plan written and read gives the same plan; an accepted file read and written gives the same bytes; a file
 -- is accepted exactly if it is the writing of a plan that passes the checks.
 use mathlib.Core.Path.{_≡_, subst}
-use mathlib.Core.Bool.{Bool, true}
+use mathlib.Core.Bool.{true}
 use mathlib.Core.List.{List}
 use Prim.Native.Nat.{ℕ, _≤_}
 use lib.ListN.{length}
@@ -11,7 +11,7 @@ use Rattle.plan.specs.declared.Sense.{Sense}
 use Rattle.rules.specs.Calls.{Checked, orElse, check}
 use Rattle.file.specs.Format.{senseFrom}
 use Rattle.file.specs.Writing.{written, Each}
-use Rattle.file.specs.Reading.{headerIn, resourcesIn, tasksIn, shapeDue, Read, readUnless, readPlan}
+use Rattle.file.specs.Reading.{headerIn, resourcesIn, tasksIn, shapeDue, Read, readPlan}
 use Rattle.file.proofs.Numbers.{AllBytes}
 use Rattle.file.proofs.Records.{then-first, then-second}
 use Rattle.file.proofs.Passed.{Identified}

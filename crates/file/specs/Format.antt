@@ -2,8 +2,7 @@
 -- all come from here.
 use mathlib.Core.List.{List, [], _∷_, _++_}
 use Prim.Native.Nat.{ℕ, zero, suc, _+_}
-use lib.ListN.{length, getD, take, drop}
-use lib.IntN.{ℤ}
+use lib.ListN.{getD, take, drop}
 use Rattle.plan.specs.declared.Task.{Task}
 use Rattle.plan.specs.declared.Resource.{Resource}
 use Rattle.plan.specs.declared.Span.{Span}

@@ -1,7 +1,6 @@
 // Marks, and numbers in lent bytes at a place: little-endian, signed ones in two's complement.
 ghost use mathlib.Core.Path.{_≡_};
-ghost use Prim.Native.Nat.{ℕ, _+_, _≤_, _<_};
-ghost use lib.IntN.{ℤ};
+ghost use Prim.Native.Nat.{_+_, _≤_, _<_};
 ghost use lib.ListN.{length, getD, take, drop};
 ghost use lib.Seq.{sets};
 ghost use mir.Syntax.{w32};
@@ -68,7 +67,11 @@ fn four_at(b: &[u8], at: usize) -> u32
 fn signed(x: u32) -> i32
     ensures { λ r. ⌜ r ≡ signedOf x ⌝ }
 {
-    if x < 0x8000_0000 { x as i32 } else { (x as i64 - 0x1_0000_0000) as i32 }
+    if x < 0x8000_0000 {
+        x as i32
+    } else {
+        (x as i64 - 0x1_0000_0000) as i32
+    }
 }
 
 pub fn id_at(b: &[u8], at: usize) -> i32
@@ -97,7 +100,11 @@ fn unsigned(x: i64) -> u32
     requires { ⌜ SFits w32 x ⌝ }
     ensures { λ r. ⌜ r ≡ unsignedOf x ⌝ }
 {
-    if x < 0 { (x + 0x1_0000_0000) as u32 } else { x as u32 }
+    if x < 0 {
+        (x + 0x1_0000_0000) as u32
+    } else {
+        x as u32
+    }
 }
 
 pub fn put_one(b: &mut [u8], at: usize, n: u32)

@@ -1,7 +1,11 @@
 // Plan files: records of marked bytes, a cursor that hands them out one after another, a reader and a writer.
+<<<<<<< HEAD
 pub mod reader;
-mod writer;
+=======
 mod fields;
+mod reader;
+>>>>>>> file
+mod writer;
 
 ghost use mathlib.Core.Path.{_≡_};
 ghost use Rattle.rules.specs.Calls.{Checked, check};

@@ -1,8 +1,8 @@
 // A reader stands in the lent file bytes and hands out one record after another: a cursor by value on the bytes.
 ghost use mathlib.Core.Path.{_≡_};
-ghost use Prim.Native.Nat.{ℕ, _+_, _*_, _≤_, _<_, _^_};
+ghost use Prim.Native.Nat.{_+_, _*_, _≤_, _<_, _^_};
 ghost use mathlib.Core.List.{map};
-ghost use lib.ListN.{length, getD, take, drop};
+ghost use lib.ListN.{length, take, drop};
 ghost use lib.Seq.{sets};
 ghost use Rattle.rules.specs.Calls.{Checked, orElse, refuseIf, mostResources, mostTasks};
 ghost use lib.Dec.{ltb};
@@ -10,7 +10,7 @@ ghost use Rattle.plan.specs.declared.Refusal.the-variants.{CutShort};
 ghost use Rattle.rows.specs.View.{tasksOf, resourcesOf};
 ghost use Rattle.entry.specs.Checks.{checkedOf};
 ghost use Rattle.file.specs.declared.Mark.the-variants.{PL, RS, TK};
-ghost use Rattle.file.specs.Format.{mark, size, numbersIn, headerFrom, resourceFrom, taskFrom, senseFrom};
+ghost use Rattle.file.specs.Format.{size, numbersIn, headerFrom, resourceFrom, taskFrom, senseFrom};
 ghost use Rattle.file.specs.Reading.{marked, cursor, whole, handed, recordAt, sameMark, notDue, through, eachDue, recordsIn, headerDue, bodyDue, resourcesIn, tasksIn, readAfter, readPlan, readAnswer, Stands};
 use crate::Cursor;
 use crate::Header;
@@ -85,7 +85,11 @@ fn is_marked(k: Mark, b: &[u8]) -> bool
     requires { ⌜ 2 ≤ length (now b) ⌝ }
     ensures { λ r. ⌜ r ≡ marked k (now (b .entry)) ⌝ }
 {
-    if b[0] == first_byte(k) { b[1] == second_byte(k) } else { false }
+    if b[0] == first_byte(k) {
+        b[1] == second_byte(k)
+    } else {
+        false
+    }
 }
 
 // Each record, unless it is longer than the rest; the cursor past it.
@@ -280,7 +284,11 @@ fn read_body(file: &[u8], h: Header, q: &mut [[i64; 2]], s: &mut [[i64; 9]]) -> 
 fn sense_of(b: u8) -> Sense
     ensures { λ r. ⌜ r ≡ senseFrom b ⌝ }
 {
-    if b == 0 { Sense::AtMost } else { Sense::AtLeast }
+    if b == 0 {
+        Sense::AtMost
+    } else {
+        Sense::AtLeast
+    }
 }
 
 // The body, "then 3 to 6", over rows with places enough.
@@ -305,7 +313,13 @@ fn read_after(file: &[u8], h: Header, q: &mut [[i64; 2]], s: &mut [[i64; 9]]) ->
 }
 
 // The plan of a file, into rows of our own: nothing lent is touched before the file is known to be whole.
-pub fn read_plan(file: &[u8], places: usize, room: usize, q: &mut [[i64; 2]], s: &mut [[i64; 9]]) -> ReadAnswer
+pub fn read_plan(
+    file: &[u8],
+    places: usize,
+    room: usize,
+    q: &mut [[i64; 2]],
+    s: &mut [[i64; 9]],
+) -> ReadAnswer
     requires { ⌜ (mostResources ≤ length (now q)) × (mostTasks ≤ length (now s)) ⌝ }
     ensures { λ r. ⌜ r ≡ readAnswer (readPlan places room (now (file .entry))) ⌝ }
     ensures { λ _. ⌜ Stands (readPlan places room (now (file .entry))) (resourcesOf (now (q .exit))) (tasksOf (now (s .exit))) ⌝ }

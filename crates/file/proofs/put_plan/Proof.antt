@@ -1,6 +1,6 @@
 -- Room for the file's length, then one record after another from the first place on: the file laid over the buffer.
 use native.Mathlib.Omega.{arith}
-use mathlib.Core.Path.{_≡_, refl, sym, ap, _∙_}
+use mathlib.Core.Path.{_≡_, sym, _∙_}
 use mathlib.Core.List.{List}
 use Prim.Native.Nat.{ℕ, _+_, _*_, _≤_}
 use lib.ListN.{length}
@@ -77,8 +77,8 @@ returns-2 c =
     let room : length (file s) ≤ length out = omega (arith, file-length s, header .before .before .if1) in
     let stores = rw (length-resources q, length-tasks t) at (written-stores (s .args .sense) (resourcesOf q) (tasksOf t) (identified-rows q) (s .pre) out) in
     let e : tasks .put-tasks .last .0 ≡ laid (file s) out =
-          rw (tasks .put-tasks .ensures, resources .put-resources .ensures, header .put-header .ensures)
-          (sym stores ∙ sets-laid (file s) out room) in
+    rw (tasks .put-tasks .ensures, resources .put-resources .ensures, header .put-header .ensures)
+    (sym stores ∙ sets-laid (file s) out room) in
     rw (le-ltb (length out) (length (file s)) room, e, ← file-length s)
 
 pub put-plan-spec : {M : Type 1} → statement M

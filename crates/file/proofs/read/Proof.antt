@@ -1,14 +1,13 @@
 -- A refusal leaves the lent lists; a plan is copied from our rows into the first places.
 use native.Mathlib.Omega.{arith}
-use mathlib.Core.Path.{_≡_, refl, sym, ap, _∙_}
+use mathlib.Core.Path.{sym, _∙_}
 use mathlib.Core.List.{List}
 use Prim.Native.Nat.{ℕ, _≤_}
 use lib.IntN.{ℤ}
 use lib.ListN.{length}
 use Rattle.rows.specs.View.{tasksOf, resourcesOf}
 use Rattle.rows.proofs.View.{length-tasks, length-resources}
-use Rattle.file.specs.Writing.{laid}
-use Rattle.file.specs.Reading.{Read, readPlan, readInto, readCall}
+use Rattle.file.specs.Reading.{readCall}
 use Rattle.file.proofs.Files.{Told, told, refused, read-lays, resources-copied, tasks-copied}
 use borrow.Author.Needs.{needs}
 use Rattle.file.proofs.read.Statement.{statement}
@@ -86,7 +85,7 @@ returns-2 c =
     let read = k .before .before .before .before .before .read-plan in
     let st = read .ensures .1 .stands (t .is) in
     let room : (length (t .resources) ≤ length (q k)) × (length (t .tasks) ≤ length (s k)) =
-          (omega (arith, t .counted .0, t .few-resources .1), omega (arith, t .counted .1, t .few-tasks .1)) in
+    (omega (arith, t .counted .0, t .few-resources .1), omega (arith, t .counted .1, t .few-tasks .1)) in
     let resources = resources-copied (t .resources) (n k) (read .last .1 .1 .1 .0) (q k) (st .0) (t .counted .0) (room .0) (c .before .before .before .before .before .copy-resources .ensures) in
     let tasks = tasks-copied (t .tasks) (m k) (read .last .1 .1 .1 .1 .0) (s k) (st .1) (t .counted .1) (room .1) (c .before .copy-tasks .ensures) in
     rw (length-resources (q k), length-tasks (s k)) (read-lays t (resourcesOf (q k)) (tasksOf (s k)) resources tasks)

@@ -1,5 +1,5 @@
 -- The checks, then the file.
-use mathlib.Core.Path.{_≡_, refl, sym, ap, _∙_}
+use mathlib.Core.Path.{sym, ap, _∙_}
 use Rattle.entry.specs.Checks.{checkedOf}
 use Rattle.file.specs.Writing.{writtenIn, writeCall}
 use borrow.Author.Needs.{needs}

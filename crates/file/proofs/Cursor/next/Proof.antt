@@ -1,11 +1,9 @@
 use mathlib.Core.Path.{ap, _∙_}
 use Prim.Native.Nat.{_-_}
-use lib.ListN.{length, drop, length-drop}
+use lib.ListN.{length, drop, length-drop, drop-of-length-le}
 use lib.Seq.{take-all}
 -- The rest of the file from the cursor on.
-use borrow.Author.Tests.{lt-ltb}
 use native.Mathlib.Omega.{arith}
-use lib.ListN.{drop-of-length-le}
 use Rattle.file.specs.Reading.{handed, recordAt}
 use borrow.Author.Needs.{needs}
 use Rattle.file.proofs.Cursor.next.Statement.{statement}
@@ -25,12 +23,12 @@ handed-requires c κs = search needs
 
 returns : tie.Need-returns
 unfolding recordAt
-returns c =     let a = c .before .before .before .before .args in
+returns c = let a = c .before .before .before .before .args in
     c .handed .ensures ∙ ap (handed (a .self .at)) (take-all (length (a .file .now) - a .self .at) (drop (a .self .at) (a .file .now)) (omega (arith, length-drop (a .self .at) (a .file .now))))
 
 returns-2 : tie.Need-returns-2
 unfolding recordAt handed
-returns-2 c =     rw (drop-of-length-le (c .before .before .args .file .now) (c .if1 .left))
+returns-2 c = rw (drop-of-length-le (c .before .before .args .file .now) (c .if1 .left))
 
 pub next-spec : {M : Type 1} → statement M
 next-spec =

@@ -22,7 +22,7 @@ add-result c = search needs
 
 returns : tie.Need-returns
 unfolding room
-returns c =     let a = c .before .before .before .args in
+returns c = let a = c .before .before .before .args in
     omega (arith, c .before .two-at .ensures .0, c .two-at2 .ensures .0, number-split 2 2 (a .at) (a .b .now) (omega arith))
 
 pub four-at-spec : {M : Type 1} → statement M

@@ -13,7 +13,7 @@ signed-requires : tie.Need-signed-requires
 signed-requires c κs = search needs
 
 returns : tie.Need-returns
-returns c =     let e = c .signed .ensures ∙ ap (toZ w32) (c .before .four-at .ensures) in search needs
+returns c = let e = c .signed .ensures ∙ ap (toZ w32) (c .before .four-at .ensures) in search needs
 
 pub id-at-spec : {M : Type 1} → statement M
 id-at-spec = tie.close (tie.spec four-at-requires signed-requires returns)

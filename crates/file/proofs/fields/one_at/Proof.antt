@@ -12,7 +12,7 @@ wide-requires : tie.Need-wide-requires
 wide-requires c κs = search needs
 
 returns : tie.Need-returns
-returns c =     let a = c .before .before .before .args in
+returns c = let a = c .before .before .before .args in
     (c .wide .ensures .0 ∙ sym (number-one (a .at) (a .b .now)), c .wide .ensures .1)
 
 pub one-at-spec : {M : Type 1} → statement M

@@ -1,11 +1,10 @@
 -- A signed number of four bytes, in a cell of eight.
-use mathlib.Core.Path.{ap, _∙_}
+use mathlib.Core.Path.{ap}
 use native.Mathlib.Omega.{arith}
 use lib.IntN.{ℤ}
 use mir.Syntax.{w32}
 use mir.Val.{SFits}
 use mir.Facts.{toZ-ofZ, sfits-widen}
-use Rattle.plan.specs.declared.Power.{Power}
 use Rattle.file.proofs.Numbers.{widened}
 use borrow.Author.Needs.{needs}
 use Rattle.file.proofs.fields.power_at.Statement.{statement}
@@ -15,10 +14,10 @@ id-at-requires : tie.Need-id-at-requires
 id-at-requires c κs = search needs
 
 cast-t4 : tie.Need-cast-t4
-cast-t4 c =     let f : SFits w32 (c .id-at .result) = record { sfits = omega arith } in rw (toZ-ofZ f) (sfits-widen {w = w32} tt f)
+cast-t4 c = let f : SFits w32 (c .id-at .result) = record { sfits = omega arith } in rw (toZ-ofZ f) (sfits-widen {w = w32} tt f)
 
 returns : tie.Need-returns
-returns c =     let f : SFits w32 (c .id-at .result) = record { sfits = omega arith } in
+returns c = let f : SFits w32 (c .id-at .result) = record { sfits = omega arith } in
     rw (widened (c .id-at .result) f) (ap (λ (x : ℤ). record { 0 = x }) (c .id-at .ensures))
 
 pub power-at-spec : {M : Type 1} → statement M

@@ -19,7 +19,7 @@ same-length c = search needs
 
 returns : tie.Need-returns
 unfolding room
-returns c =     let a = c .before .before .before .before .before .before .before .before .before .args in
+returns c = let a = c .before .before .before .before .before .before .before .before .before .args in
     cc (put-parts 2 2 (a .b .now) (a .at) (a .n), c .before .before .before .before .before .before .put-two .ensures, c .before .before .put-two2 .ensures)
 
 pub put-four-spec : {M : Type 1} → statement M

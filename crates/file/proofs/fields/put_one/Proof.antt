@@ -15,7 +15,7 @@ same-length c = search needs
 
 returns : tie.Need-returns
 unfolding bytesOf
-returns c =     search needs
+returns c = search needs
 
 pub put-one-spec : {M : Type 1} → statement M
 put-one-spec = tie.close (tie.spec cast-b slice-write-b same-length returns)

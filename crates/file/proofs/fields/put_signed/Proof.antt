@@ -22,7 +22,7 @@ same-length : tie.Need-same-length
 same-length c = search needs
 
 returns : tie.Need-returns
-returns c =     let s = c .before .before .before .before .before .before in
+returns c = let s = c .before .before .before .before .before .before in
     let put : ℕ → List ℕ = λ n. sets (s .args .b .now) (s .args .at) (bytesOf 4 n) in
     c .before .before .put-four .ensures
     ∙ ap put (c .before .before .before .unsigned .ensures)

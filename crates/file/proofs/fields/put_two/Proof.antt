@@ -19,7 +19,7 @@ same-length c = search needs
 
 returns : tie.Need-returns
 unfolding room
-returns c =     let a = c .before .before .before .before .before .before .before .before .before .args in
+returns c = let a = c .before .before .before .before .before .before .before .before .before .args in
     cc (put-parts 1 1 (a .b .now) (a .at) (a .n), c .before .before .before .before .before .before .put-one .ensures, c .before .before .put-one2 .ensures)
 
 pub put-two-spec : {M : Type 1} → statement M

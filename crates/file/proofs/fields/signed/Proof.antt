@@ -28,17 +28,17 @@ cast-result-2 : tie.Need-cast-result-2
 cast-result-2 c = search needs
 
 sub-result : tie.Need-sub-result
-sub-result c =     rw (less c) (sfits-widen {w = w32} tt (fit c))
+sub-result c = rw (less c) (sfits-widen {w = w32} tt (fit c))
 
 cast-result-3 : tie.Need-cast-result-3
-cast-result-3 c =     let f : SFits w64 (toZ w32 (c .before .args .x)) = sfits-widen {w = w32} tt (fit c) in
+cast-result-3 c = let f : SFits w64 (toZ w32 (c .before .args .x)) = sfits-widen {w = w32} tt (fit c) in
     simp (less c, toZ-ofZ, f) (fit c)
 
 returns : tie.Need-returns
 returns c = search needs
 
 returns-2 : tie.Need-returns-2
-returns-2 c =     let f : SFits w64 (toZ w32 (c .before .args .x)) = sfits-widen {w = w32} tt (fit c) in
+returns-2 c = let f : SFits w64 (toZ w32 (c .before .args .x)) = sfits-widen {w = w32} tt (fit c) in
     simp (less c, toZ-ofZ, f, fit c)
 
 pub signed-spec : {M : Type 1} → statement M

@@ -22,7 +22,7 @@ add-result c = search needs
 
 returns : tie.Need-returns
 unfolding room
-returns c =     let a = c .before .before .before .args in
+returns c = let a = c .before .before .before .args in
     let low = c .before .one-at .ensures in
     let high = c .one-at2 .ensures in
     (omega (arith, number-split 1 1 (a .at) (a .b .now) (omega arith)), omega arith)

@@ -2,14 +2,14 @@
 use native.Mathlib.Omega.{arith}
 use borrow.Author.Tests.{le-ltb, ltb-true}
 use mathlib.Core.Bool.{true, false}
-use mathlib.Core.Path.{_≡_, refl, sym, _∙_}
+use mathlib.Core.Path.{_≡_, refl, sym}
 use Prim.Native.Nat.{suc}
 use native.Mathlib.Nat.{not-suc-le-zero}
 use lib.IntN.{ℤ, pos, negsuc, _+ℤ_, natAbs}
 use lib.Signed.{ltZ}
 use mir.Syntax.{w32, w64}
-use mir.Val.{SFits, Fits, ofZ}
-use mir.Facts.{toZ-ofZ, fits-ofZ, sfits-widen}
+use mir.Val.{SFits, ofZ}
+use mir.Facts.{toZ-ofZ, fits-ofZ}
 use Rattle.integers.proofs.Tests.{clash}
 use Rattle.file.proofs.fields.unsigned.Statement.{statement}
 use Rattle.file.proofs.fields.unsigned.Tie as tie
@@ -30,30 +30,30 @@ bits : (x : ℤ) → SFits w32 x → SFits w64 (pos (ofZ w32 x))
 bits x f = record { sfits = omega (arith, fits-ofZ f .fits) }
 
 add-result : tie.Need-add-result
-add-result c =     let x = c .before .args .x in
+add-result c = let x = c .before .args .x in
     let f = c .before .pre in
     let e = toZ-ofZ (c .before .fits .x) in
     rw (e, below x f (rw e at (c .if1 .taken))) (bits x f)
 
 cast-result : tie.Need-cast-result
-cast-result c =     let x = c .before .args .x in
+cast-result c = let x = c .before .args .x in
     let f = c .before .pre in
     let e = toZ-ofZ (c .before .fits .x) in
     rw (e, below x f (rw e at (c .if1 .taken)), toZ-ofZ (bits x f)) (tt, fits-ofZ f)
 
 cast-result-2 : tie.Need-cast-result-2
-cast-result-2 c =     let x = c .before .args .x in
+cast-result-2 c = let x = c .before .args .x in
     let e = toZ-ofZ (c .before .fits .x) in
     rw e (rw (above x (rw e at (c .if1 .left))) (tt, fits-ofZ (c .before .pre)))
 
 returns : tie.Need-returns
-returns c =     let x = c .before .args .x in
+returns c = let x = c .before .args .x in
     let f = c .before .pre in
     let e = toZ-ofZ (c .before .fits .x) in
     rw (e, below x f (rw e at (c .if1 .taken)), toZ-ofZ (bits x f))
 
 returns-2 : tie.Need-returns-2
-returns-2 c =     let x = c .before .args .x in
+returns-2 c = let x = c .before .args .x in
     let e = toZ-ofZ (c .before .fits .x) in
     rw e (absolute x (rw e at (c .if1 .left)))
 

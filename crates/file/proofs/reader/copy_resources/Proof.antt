@@ -40,9 +40,11 @@ loop-less c = omega arith
 loop-again : tie.Need-loop-again Inv-loop μ-loop
 loop-again c =
     let l = c .before .before .loop in
-    let a = c .before .before .before .args in
-    (omega arith, length-set (l .to) (l .i) _ ∙ l .inv .1,
-      sym (copy-step [] (a .from .now) (l .to) (a .n) (l .i) (omega arith) (omega arith)) ∙ l .inv .2)
+    let a = c .before .before .before .args in (
+      omega arith,
+      length-set (l .to) (l .i) _ ∙ l .inv .1,
+      sym (copy-step [] (a .from .now) (l .to) (a .n) (l .i) (omega arith) (omega arith)) ∙ l .inv .2,
+    )
 
 same-length : tie.Need-same-length Inv-loop μ-loop
 same-length c = c .before .loop .inv .1

@@ -1,6 +1,6 @@
 -- By the two mark bytes.
 use lib.ListN.{length}
-use mathlib.Core.Path.{sym, _∙_}
+use mathlib.Core.Path.{sym}
 use borrow.Author.Tests.{lt-ltb, le-ltb}
 use Rattle.file.specs.Reading.{handed}
 use borrow.Author.Needs.{needs}
@@ -9,7 +9,7 @@ use Rattle.file.proofs.reader.handed.Tie as tie
 
 returns : tie.Need-returns
 unfolding handed
-returns c =     rw (lt-ltb _ _ (c .if1 .taken))
+returns c = rw (lt-ltb _ _ (c .if1 .taken))
 
 is-marked-requires : tie.Need-is-marked-requires
 is-marked-requires c κs = search needs
@@ -19,7 +19,7 @@ plan-record-requires c κs = search needs
 
 returns-2 : tie.Need-returns-2
 unfolding handed
-returns-2 c =     let b = c .before .before .before .before .before .args .b .now in
+returns-2 c = let b = c .before .before .before .before .before .args .b .now in
     let m = c .before .before .is-marked .ensures in
     rw (le-ltb (length b) 2 (c .before .before .before .if1 .left), sym m, c .before .if2 .taken) (c .plan-record .ensures)
 
@@ -34,8 +34,13 @@ unfolding handed
 returns-3 c =
     let s = c .before .before .before .before .before in
     let b = s .before .before .args .b .now in
-    rw (le-ltb (length b) 2 (s .if1 .left), sym (c .before .before .before .before .is-marked .ensures), c .before .before .before .if2 .left,
-      sym (c .before .before .is-marked2 .ensures), c .before .if3 .taken) (c .resource-record .ensures)
+    rw (
+      le-ltb (length b) 2 (s .if1 .left),
+      sym (c .before .before .before .before .is-marked .ensures),
+      c .before .before .before .if2 .left,
+      sym (c .before .before .is-marked2 .ensures),
+      c .before .if3 .taken,
+    ) (c .resource-record .ensures)
 
 is-marked-requires-3 : tie.Need-is-marked-requires-3
 is-marked-requires-3 c κs = search needs
@@ -48,20 +53,30 @@ unfolding handed
 returns-4 c =
     let s = c .before .before .before .before .before .before .before in
     let b = s .before .before .args .b .now in
-    rw (le-ltb (length b) 2 (s .if1 .left), sym (c .before .before .before .before .before .before .is-marked .ensures),
+    rw (
+      le-ltb (length b) 2 (s .if1 .left),
+      sym (c .before .before .before .before .before .before .is-marked .ensures),
       c .before .before .before .before .before .if2 .left,
-      sym (c .before .before .before .before .is-marked2 .ensures), c .before .before .before .if3 .left,
-      sym (c .before .before .is-marked3 .ensures), c .before .if4 .taken) (c .task-record .ensures)
+      sym (c .before .before .before .before .is-marked2 .ensures),
+      c .before .before .before .if3 .left,
+      sym (c .before .before .is-marked3 .ensures),
+      c .before .if4 .taken,
+    ) (c .task-record .ensures)
 
 returns-5 : tie.Need-returns-5
 unfolding handed
 returns-5 c =
     let s = c .before .before .before .before .before .before in
     let b = s .before .before .args .b .now in
-    rw (le-ltb (length b) 2 (s .if1 .left), sym (c .before .before .before .before .before .is-marked .ensures),
+    rw (
+      le-ltb (length b) 2 (s .if1 .left),
+      sym (c .before .before .before .before .before .is-marked .ensures),
       c .before .before .before .before .if2 .left,
-      sym (c .before .before .before .is-marked2 .ensures), c .before .before .if3 .left,
-      sym (c .before .is-marked3 .ensures), c .if4 .left)
+      sym (c .before .before .before .is-marked2 .ensures),
+      c .before .before .if3 .left,
+      sym (c .before .is-marked3 .ensures),
+      c .if4 .left,
+    )
 
 pub handed-spec : {M : Type 1} → statement M
 handed-spec =

@@ -1,5 +1,4 @@
 -- The sense, then the two counts.
-use mathlib.Core.Path.{sym}
 use Rattle.file.proofs.Numbers.{number-one}
 use Rattle.file.proofs.Places.{header-places}
 use borrow.Author.Needs.{needs}
@@ -22,7 +21,7 @@ cast-t7 : tie.Need-cast-t7
 cast-t7 c = search needs
 
 returns : tie.Need-returns
-returns c =     let b = c .before .before .before .before .args .b .now in
+returns c = let b = c .before .before .before .before .args .b .now in
     rw (header-places b, number-one 2 b) (cc (c .before .one-at .ensures .0, c .two-at .ensures .0))
 
 pub header-of-spec : {M : Type 1} → statement M

@@ -22,13 +22,13 @@ second-byte-requires c κs = search needs
 
 returns : tie.Need-returns
 unfolding marked
-returns c =     let a = c .before .before .before .before .before .before .args in
+returns c = let a = c .before .before .before .before .before .before .args in
     let first = c .before .before .before .first-byte in
     rw (eq-eqb (getD (a .b .now) 0 0) (getD (mark (a .k)) 0 0) (c .before .before .if1 .taken ∙ first .ensures), c .second-byte .ensures)
 
 returns-2 : tie.Need-returns-2
 unfolding marked
-returns-2 c =     let a = c .before .before .before .before .args in
+returns-2 c = let a = c .before .before .before .before .args in
     let first = c .before .first-byte in
     rw (ne-eqb (getD (a .b .now) 0 0) (getD (mark (a .k)) 0 0) (λ e. c .if1 .left (e ∙ sym (first .ensures))))
 

@@ -26,7 +26,7 @@ enum-told-5 : tie.Need-enum-told-5
 enum-told-5 c = search needs
 
 returns : tie.Need-returns
-returns c =     rw (c .enum-told .given .1)
+returns c = rw (c .enum-told .given .1)
 
 returns-2 : tie.Need-returns-2
 returns-2 c = rw (c .before .before .before .got .given .1, sym (c .before .same-mark .ensures), c .if1 .taken)
@@ -35,16 +35,16 @@ returns-3 : tie.Need-returns-3
 returns-3 c = rw (c .before .before .before .got .given .1, sym (c .before .same-mark .ensures), c .if1 .left)
 
 returns-4 : tie.Need-returns-4
-returns-4 c =     rw (c .enum-told2 .given .1)
+returns-4 c = rw (c .enum-told2 .given .1)
 
 returns-5 : tie.Need-returns-5
-returns-5 c =     rw (c .enum-told3 .given .1)
+returns-5 c = rw (c .enum-told3 .given .1)
 
 returns-6 : tie.Need-returns-6
-returns-6 c =     rw (c .enum-told4 .given .1)
+returns-6 c = rw (c .enum-told4 .given .1)
 
 returns-7 : tie.Need-returns-7
-returns-7 c =     rw (c .enum-told5 .given .1)
+returns-7 c = rw (c .enum-told5 .given .1)
 
 pub not-due-spec : {M : Type 1} → statement M
 not-due-spec =

@@ -3,6 +3,7 @@ use native.Mathlib.Omega.{arith}
 use mathlib.Core.Path.{_≡_, refl, sym, ap, _∙_}
 use mathlib.Core.List.{List}
 use Prim.Native.Nat.{ℕ, _≤_}
+use lib.IntN.{ℤ}
 use lib.ListN.{length, take, length-take}
 use lib.Seq.{sets}
 use Rattle.plan.specs.declared.Task.{Task}
@@ -30,44 +31,57 @@ module _ (c : tie.After-check) where
   abbrev file : List ℕ
   file = c .before .before .before .before .before .before .before .before .before .before .before .args .file .now
 
+  -- the lent rows, before and after
+  abbrev q : List (List ℤ)
+  q = c .before .before .before .before .before .before .before .before .before .before .before .args .q .now
+
+  abbrev s : List (List ℤ)
+  s = c .before .before .before .before .before .before .before .before .before .before .before .args .s .now
+
+  abbrev resource-rows : List (List ℤ)
+  resource-rows = c .before .before .before .before .before .before .before .read-body .last .1 .1 .0
+
+  abbrev task-rows : List (List ℤ)
+  task-rows = c .before .before .before .before .before .before .before .read-body .last .1 .1 .1 .0
+
   whole : bodyDue h file ≡ Checked.Accepted
   whole = sym (c .before .before .before .before .before .before .before .read-body .ensures .0) ∙ ap checkedOf (c .before .before .before .enum-told .given .1)
 
-  stored : (resourcesOf (c .before .before .before .before .before .before .before .read-body .last .1 .1 .0) ≡ sets (resourcesOf (c .before .before .before .before .before .before .before .before .before .before .before .args .q .now)) 0 (resourcesIn h file)) × (tasksOf (c .before .before .before .before .before .before .before .read-body .last .1 .1 .1 .0) ≡ sets (tasksOf (c .before .before .before .before .before .before .before .before .before .before .before .args .s .now)) 0 (tasksIn h file))
+  stored : (resourcesOf resource-rows ≡ sets (resourcesOf q) 0 (resourcesIn h file)) × (tasksOf task-rows ≡ sets (tasksOf s) 0 (tasksIn h file))
   stored = c .before .before .before .before .before .before .before .read-body .ensures .1 whole
 
-  resources-room : length (resourcesIn h file) ≤ length (resourcesOf (c .before .before .before .before .before .before .before .before .before .before .before .args .q .now))
-  resources-room = omega (arith, length-resourcesIn h file, length-resources (c .before .before .before .before .before .before .before .before .before .before .before .args .q .now), c .before .before .before .before .before .before .before .before .before .before .before .pre .0)
+  resources-room : length (resourcesIn h file) ≤ length (resourcesOf q)
+  resources-room = omega (arith, length-resourcesIn h file, length-resources q, c .before .before .before .before .before .before .before .before .before .before .before .pre .0)
 
-  tasks-room : length (tasksIn h file) ≤ length (tasksOf (c .before .before .before .before .before .before .before .before .before .before .before .args .s .now))
-  tasks-room = omega (arith, length-tasksIn h file, length-tasks (c .before .before .before .before .before .before .before .before .before .before .before .args .s .now), c .before .before .before .before .before .before .before .before .before .before .before .pre .1)
+  tasks-room : length (tasksIn h file) ≤ length (tasksOf s)
+  tasks-room = omega (arith, length-tasksIn h file, length-tasks s, c .before .before .before .before .before .before .before .before .before .before .before .pre .1)
 
-  resources-stand : take (length (resourcesIn h file)) (resourcesOf (c .before .before .before .before .before .before .before .read-body .last .1 .1 .0)) ≡ resourcesIn h file
+  resources-stand : take (length (resourcesIn h file)) (resourcesOf resource-rows) ≡ resourcesIn h file
   resources-stand =
       ap (take (length (resourcesIn h file))) (stored .0)
-      ∙ taken (length (resourcesIn h file)) (resourcesIn h file) (resourcesOf (c .before .before .before .before .before .before .before .before .before .before .before .args .q .now)) refl resources-room
+      ∙ taken (length (resourcesIn h file)) (resourcesIn h file) (resourcesOf q) refl resources-room
 
-  tasks-stand : take (length (tasksIn h file)) (tasksOf (c .before .before .before .before .before .before .before .read-body .last .1 .1 .1 .0)) ≡ tasksIn h file
+  tasks-stand : take (length (tasksIn h file)) (tasksOf task-rows) ≡ tasksIn h file
   tasks-stand =
       ap (take (length (tasksIn h file))) (stored .1)
-      ∙ taken (length (tasksIn h file)) (tasksIn h file) (tasksOf (c .before .before .before .before .before .before .before .before .before .before .before .args .s .now)) refl tasks-room
+      ∙ taken (length (tasksIn h file)) (tasksIn h file) (tasksOf s) refl tasks-room
 
-  resources-read : resourcesOf (take (h .resources) (c .before .before .before .before .before .before .before .read-body .last .1 .1 .0)) ≡ resourcesIn h file
+  resources-read : resourcesOf (take (h .resources) resource-rows) ≡ resourcesIn h file
   resources-read =
-      resources-take (h .resources) (c .before .before .before .before .before .before .before .read-body .last .1 .1 .0)
-      ∙ ap (λ (n : ℕ). take n (resourcesOf (c .before .before .before .before .before .before .before .read-body .last .1 .1 .0))) (sym (length-resourcesIn h file))
+      resources-take (h .resources) resource-rows
+      ∙ ap (λ (n : ℕ). take n (resourcesOf resource-rows)) (sym (length-resourcesIn h file))
       ∙ resources-stand
 
-  tasks-read : tasksOf (take (h .tasks) (c .before .before .before .before .before .before .before .read-body .last .1 .1 .1 .0)) ≡ tasksIn h file
+  tasks-read : tasksOf (take (h .tasks) task-rows) ≡ tasksIn h file
   tasks-read =
-      tasks-take (h .tasks) (c .before .before .before .before .before .before .before .read-body .last .1 .1 .1 .0)
-      ∙ ap (λ (n : ℕ). take n (tasksOf (c .before .before .before .before .before .before .before .read-body .last .1 .1 .1 .0))) (sym (length-tasksIn h file))
+      tasks-take (h .tasks) task-rows
+      ∙ ap (λ (n : ℕ). take n (tasksOf task-rows)) (sym (length-tasksIn h file))
       ∙ tasks-stand
 
   checked : checkedOf (c .check .result) ≡ check (resourcesIn h file) (tasksIn h file)
   checked =
       c .check .ensures
-      ∙ ap (λ (l : List Resource). check l (tasksOf (take (h .tasks) (c .before .before .before .before .before .before .before .read-body .last .1 .1 .1 .0)))) resources-read
+      ∙ ap (λ (l : List Resource). check l (tasksOf (take (h .tasks) task-rows))) resources-read
       ∙ ap (λ (l : List Task). check (resourcesIn h file) l) tasks-read
 
 read-body-requires : tie.Need-read-body-requires
@@ -147,12 +161,13 @@ returns-3 c =
     let h = s .args .h in
     let file = s .args .file .now in
     let e = sym (checked a) ∙ ap checkedOf (c .before .enum-told2 .given .1) in
-    let r : readAfter h file ≡ Read.Plan (senseFrom (h .sense)) (resourcesIn h file) (tasksIn h file) = rw (whole a, e) in
-    (ap (λ (x : Sense). ReadAnswer.Plan x (h .resources) (h .tasks)) (c .sense-of .ensures)
-      ∙ ap (λ (n : ℕ). ReadAnswer.Plan (senseFrom (h .sense)) n (h .tasks)) (sym (length-resourcesIn h file))
-      ∙ ap (λ (n : ℕ). ReadAnswer.Plan (senseFrom (h .sense)) (length (resourcesIn h file)) n) (sym (length-tasksIn h file))
-      ∙ sym (ap readAnswer r),
-      stands-is r (resources-stand a) (tasks-stand a))
+    let r : readAfter h file ≡ Read.Plan (senseFrom (h .sense)) (resourcesIn h file) (tasksIn h file) = rw (whole a, e) in (
+      ap (λ (x : Sense). ReadAnswer.Plan x (h .resources) (h .tasks)) (c .sense-of .ensures)
+          ∙ ap (λ (n : ℕ). ReadAnswer.Plan (senseFrom (h .sense)) n (h .tasks)) (sym (length-resourcesIn h file))
+          ∙ ap (λ (n : ℕ). ReadAnswer.Plan (senseFrom (h .sense)) (length (resourcesIn h file)) n) (sym (length-tasksIn h file))
+          ∙ sym (ap readAnswer r),
+      stands-is r (resources-stand a) (tasks-stand a),
+    )
 
 pub read-after-spec : {M : Type 1} → statement M
 read-after-spec =

@@ -1,5 +1,5 @@
 -- The resources' run, then the rest from its end on.
-use mathlib.Core.Path.{_≡_, sym, ap, _∙_}
+use mathlib.Core.Path.{sym, ap, _∙_}
 use lib.ListN.{length, drop}
 use lib.Dec.{ltb}
 use Rattle.plan.specs.declared.Refusal.the-variants.{CutShort}
@@ -59,9 +59,10 @@ returns-2 c =
     let run = c .before .before .before .before .before .before .before .read-resources in
     let rest = c .before .read-rest in
     let w = run-past (resources s) (cursor (tasksFrom (s .args .h))) (sym (run .ensures .0) ∙ c .before .before .before .before .run2 .given .1) in
-    let there = ap (λ (x : Cursor). x .at) (w .1) in
-    (rw (w .0) (rw there at (rest .ensures .0)),
-      λ a. (run .ensures .1 (w .0), (rw there at (rest .ensures .1)) (then-first (tasks s) (left s) (then-second (resources s) (orElse (tasks s) (left s)) a))))
+    let there = ap (λ (x : Cursor). x .at) (w .1) in (
+      rw (w .0) (rw there at (rest .ensures .0)),
+      λ a. (run .ensures .1 (w .0), (rw there at (rest .ensures .1)) (then-first (tasks s) (left s) (then-second (resources s) (orElse (tasks s) (left s)) a))),
+    )
 
 pub read-body-spec : {M : Type 1} → statement M
 read-body-spec =

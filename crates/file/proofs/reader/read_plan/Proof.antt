@@ -1,17 +1,13 @@
 -- The PL record, its checks, then the rest.
 use native.Mathlib.Omega.{arith}
-use mathlib.Core.Path.{_≡_, refl, sym, ap, _∙_}
-use mathlib.Core.Bool.{Bool}
+use mathlib.Core.Path.{_≡_, sym, ap, _∙_}
 use mathlib.Core.List.{List}
-use Prim.Native.Nat.{ℕ, _≤_}
-use lib.ListN.{drop}
-use Rattle.integers.specs.Tests.{if}
+use Prim.Native.Nat.{ℕ}
 use Rattle.rules.specs.Calls.{Checked}
 use Rattle.entry.specs.Checks.{checkedOf}
 use Rattle.file.specs.declared.Mark.the-variants.{PL}
-use Rattle.file.specs.declared.Header.{Header}
-use Rattle.file.specs.Reading.{Read, due, headerIn, headerDue, shapeDue, readAfter, readPlan, readAnswer, recordAt, notDue}
-use Rattle.file.proofs.Handed.{asDue, plan-due, plan-whole, not-plan, same-plan}
+use Rattle.file.specs.Reading.{Read, due, headerIn, shapeDue, readAfter, readPlan, readAnswer, recordAt}
+use Rattle.file.proofs.Handed.{plan-taken, plan-refused}
 use Rattle.file.proofs.Files.{stands-not, few}
 use borrow.Author.Needs.{needs}
 use Rattle.file.proofs.reader.read_plan.Statement.{statement}
@@ -22,13 +18,9 @@ module _ (c : tie.After-known-told) where
   abbrev file : List ℕ
   file = c .before .before .before .before .before .args .file .now
 
-  whole : due PL 0 file ≡ Checked.Accepted
-  unfolding recordAt
-  whole = plan-due 0 file ∙ ap (asDue PL 0) (sym (c .before .before .before .next .ensures) ∙ c .before .got .given .1)
-
-  is : c .before .got .given .0 .0 ≡ headerIn file
+  taken : (due PL 0 file ≡ Checked.Accepted) × (c .before .got .given .0 .0 ≡ headerIn file)
   unfolding recordAt headerIn
-  is = same-plan (sym (c .before .got .given .1) ∙ c .before .before .before .next .ensures ∙ plan-whole 0 file whole) .0
+  taken = plan-taken 0 file (c .before .before .before .next .ensures) (c .before .got .given .1)
 
 next-requires : tie.Need-next-requires
 next-requires c κs = search needs
@@ -45,9 +37,7 @@ returns c =
     let s = c .before .before .before .before in
     let next = c .before .before .next in
     let file = s .args .file .now in
-    let d : due PL 0 file ≡ Checked.Refuse (notDue PL 0 (next .result)) =
-          plan-due 0 file ∙ ap (asDue PL 0) (sym (next .ensures))
-          ∙ ap (λ (b : Bool). if b Checked.Accepted (Checked.Refuse (notDue PL 0 (next .result)))) (not-plan (next .result) (c .before .match .keys2)) in
+    let d = plan-refused 0 file (next .ensures) (c .before .match .keys2) in
     let r : readPlan (s .args .places) (s .args .room) file ≡ Read.Refuse (c .not-due .result) = rw (d, c .not-due .ensures) in
     (sym (ap readAnswer r), stands-not r)
 
@@ -73,7 +63,7 @@ returns-2 c =
     let k = c .before .before .before .before in
     let s = k .before .before .before .before .before in
     let e = sym (c .before .before .before .check-header .ensures) ∙ ap checkedOf (c .before .checked .given .1) in
-    let r : readPlan (s .args .places) (s .args .room) (file k) ≡ Read.Refuse (c .before .checked .given .0 .0) = rw (whole k, rw (is k) at e) in
+    let r : readPlan (s .args .places) (s .args .room) (file k) ≡ Read.Refuse (c .before .checked .given .0 .0) = rw (taken k .0, rw (taken k .1) at e) in
     (sym (ap readAnswer r), stands-not r)
 
 same-length : tie.Need-same-length
@@ -88,9 +78,9 @@ returns-3 c =
     let k = c .before .before .before .before .before .before .before .before in
     let s = k .before .before .before .before .before in
     let e = sym (c .before .before .before .before .before .before .before .check-header .ensures) ∙ ap checkedOf (c .before .before .before .before .before .enum-told .given .1) in
-    let same : readAfter (headerIn (file k)) (file k) ≡ readPlan (s .args .places) (s .args .room) (file k) = rw (whole k, rw (is k) at e) in
+    let same : readAfter (headerIn (file k)) (file k) ≡ readPlan (s .args .places) (s .args .room) (file k) = rw (taken k .0, rw (taken k .1) at e) in
     let after = c .before .before .read-after in
-    (rw same at (rw (is k) at (after .ensures .0)), rw same at (rw (is k) at (after .ensures .1)))
+    (rw same at (rw (taken k .1) at (after .ensures .0)), rw same at (rw (taken k .1) at (after .ensures .1)))
 
 pub read-plan-spec : {M : Type 1} → statement M
 read-plan-spec =

@@ -1,39 +1,31 @@
-use native.Mathlib.Nat.{sub-zero}
-use lib.ListN.{length-set}
-use Rattle.file.proofs.Handed.{same-resource}
 -- What is still due from the cursor on decides; the records still to come, put into the list as it is now, give the list with all of them.
 use native.Mathlib.Omega.{arith}
 use mathlib.Core.Path.{_≡_, refl, sym, ap, _∙_}
-use mathlib.Core.Bool.{Bool, true, false}
-use Rattle.integers.specs.Tests.{if}
-use Rattle.file.proofs.Records.{not-both}
-use Rattle.file.specs.declared.Run.{Run}
-use mathlib.Core.List.{List, map}
-use Prim.Native.Nat.{ℕ, _+_, _*_, _-_, _≤_, _<_}
-use lib.ListN.{length, drop, set}
-use lib.Seq.{sets}
+use Prim.Native.Nat.{ℕ, _-_}
+use lib.ListN.{length, drop, set, length-set}
 use borrow.Author.Needs.{needs}
-use Rattle.rules.specs.Calls.{Checked, orElse}
 use Rattle.rows.specs.View.{resourcesOf}
 use Rattle.rows.proofs.View.{length-resources}
+use Rattle.plan.specs.declared.Resource.{Resource}
 use Rattle.file.specs.declared.Mark.the-variants.{RS}
-use Rattle.file.specs.declared.Record.{Record}
-use Rattle.file.specs.declared.Cursor.{Cursor}
-use Rattle.file.specs.Format.{numbersIn, resourceFrom}
-use Rattle.file.specs.Reading.{due, eachDue, recordsIn, recordAt, handed, notDue, through, cursor}
-use Rattle.file.proofs.Handed.{asDue, holds, resource-due, resource-whole, not-resource}
-use Rattle.file.proofs.Runs.{dueFrom, readFrom, due-step, due-end, read-step, read-end}
+use Rattle.file.specs.declared.Run.{Run}
+use Rattle.file.specs.Format.{resourceFrom}
+use Rattle.file.specs.Reading.{recordAt, cursor}
+use Rattle.file.proofs.Records.{not-both}
+use Rattle.file.proofs.Handed.{resource-taken, resource-refused}
+use Rattle.file.proofs.Runs.{Reading, reading-starts, reading-goes-on, reading-refused, reading-ends}
 use Rattle.file.proofs.reader.read_resources.Statement.{statement}
 use Rattle.file.proofs.reader.read_resources.Tie as tie
 
 abbrev Inv-loop : tie.InvT-loop
-Inv-loop file n q₀ c₀ i₀ q c i = (i ≤ n) × (c .at ≡ c₀ .at + i * 10) × (length q ≡ length q₀) × (dueFrom RS file n i (c .at) ≡ eachDue RS n (c₀ .at) (drop (c₀ .at) file)) × (sets (resourcesOf q) i (readFrom RS file n resourceFrom i (c .at)) ≡ sets (resourcesOf q₀) 0 (map resourceFrom (recordsIn RS n (drop (c₀ .at) file))))
+Inv-loop file n q₀ c₀ i₀ q c i =
+    (length q ≡ length q₀) × Reading RS resourceFrom file n (c₀ .at) (resourcesOf q₀) i (c .at) (resourcesOf q)
 
 abbrev μ-loop : tie.MeasureT-loop
 μ-loop file n q₀ c₀ i₀ q c i = n - i
 
 loop-holds : tie.Need-loop-holds Inv-loop μ-loop
-loop-holds c = (omega arith, omega arith, refl, rw (sub-zero (c .before .args .n)), rw (sub-zero (c .before .args .n)))
+loop-holds c = let s = c .before in (refl, reading-starts RS resourceFrom (s .args .file .now) (s .args .n) (s .args .from .at) (resourcesOf (s .args .q .now)))
 
 next-requires : tie.Need-next-requires Inv-loop μ-loop
 next-requires c κs = search needs
@@ -52,17 +44,13 @@ unfolding recordAt
 returns c =
     let s = c .before .before .before .before .before .before in
     let l = c .before .before .before .before .loop in
-    let file = s .args .file .now in
-    let next = c .before .before .next in
     let at = l .c .at in
-    let bs = drop at file in
-    let d = resource-due at bs ∙ ap (asDue RS at) (sym (next .ensures)) ∙ ap (λ (b : Bool). if b Checked.Accepted (Checked.Refuse (notDue RS at (next .result)))) (not-resource (next .result) (c .before .match .keys2)) in
-    let later = dueFrom RS file (s .args .n) (l .i + 1) (at + 10) in
-    let e = sym (l .inv .3) ∙ due-step RS file (s .args .n) (l .i) at (omega arith) ∙ ap (λ (x : Checked). orElse x later) d in
+    let d = resource-refused at (drop at (s .args .file .now)) (c .before .before .next .ensures) (c .before .match .keys2) in
+    let e = reading-refused RS resourceFrom (s .args .file .now) (s .args .n) (s .args .from .at) (resourcesOf (s .args .q .now)) (l .inv .1) (omega arith) d in
     (rw (e, c .not-due .ensures), λ a. not-both (sym e ∙ a))
 
 put-resource-requires : tie.Need-put-resource-requires Inv-loop μ-loop
-put-resource-requires c κs = search needs
+put-resource-requires c κs = omega arith
 
 add-i : tie.Need-add-i Inv-loop μ-loop
 add-i c = omega arith
@@ -75,20 +63,14 @@ unfolding recordAt
 loop-again c =
     let l = c .before .before .before .before .before .before .before .before .loop in
     let s = c .before .before .before .before .before .before .before .before .before .before in
-    let next = c .before .before .before .before .before .before .next in
     let got = c .before .before .before .before .got .given in
     let put = c .before .put-resource in
-    let file = s .args .file .now in
-    let n = s .args .n in
     let at = l .c .at in
-    let bs = drop at file in
-    let d : due RS at bs ≡ Checked.Accepted = resource-due at bs ∙ ap (asDue RS at) (sym (next .ensures) ∙ got .1) in
-    let w = same-resource (sym (got .1) ∙ next .ensures ∙ resource-whole at bs d) in
-    let past : got .0 .1 .0 .at ≡ at + 10 = ap (λ (x : Cursor). x .at) (w .1) in
-    (omega arith, omega arith,
+    let w = resource-taken at (drop at (s .args .file .now)) (c .before .before .before .before .before .before .next .ensures) (got .1) in
+    let e = put .ensures ∙ ap (λ (x : Resource). set (resourcesOf (l .q)) (l .i) x) (w .1) in (
       omega (arith, length-resources (put .last .0), length-resources (l .q), ap length (put .ensures), length-set (resourcesOf (l .q)) (l .i) (got .0 .0)),
-      rw past (sym (due-step RS file n (l .i) at (omega arith) ∙ ap (λ (x : Checked). orElse x (dueFrom RS file n (l .i + 1) (at + 10))) d) ∙ l .inv .3),
-      rw (past, put .ensures, w .0) (sym (read-step RS file n resourceFrom (resourcesOf (l .q)) (l .i) at (omega arith)) ∙ l .inv .4))
+      rw (w .2) (reading-goes-on RS resourceFrom (s .args .file .now) (s .args .n) (s .args .from .at) (resourcesOf (s .args .q .now)) (l .inv .1) (omega arith) (w .0) e),
+    )
 
 same-length-2 : tie.Need-same-length-2 Inv-loop μ-loop
 same-length-2 c = search needs
@@ -96,12 +78,8 @@ same-length-2 c = search needs
 returns-2 : tie.Need-returns-2 Inv-loop μ-loop
 returns-2 c =
     let s = c .before .before .before in
-    let l = c .before .loop in
-    let file = s .args .file .now in
-    let e = sym (l .inv .3) ∙ due-end RS file (s .args .n) (l .i) (l .c .at) (omega arith) in
-    let at : l .c .at ≡ s .args .from .at + s .args .n * 10 = omega arith in
-    (rw e (ap (λ (x : ℕ). Run.Through (cursor x)) at),
-      λ a. sym (read-end RS file (s .args .n) resourceFrom (resourcesOf (l .q)) (l .i) (l .c .at) (omega arith)) ∙ l .inv .4)
+    let w = reading-ends RS resourceFrom (s .args .file .now) (s .args .n) (s .args .from .at) (resourcesOf (s .args .q .now)) (c .before .loop .inv .1) (omega arith) in
+    (rw (w .0) (ap (λ (x : ℕ). Run.Through (cursor x)) (w .1)), λ a. w .2)
 
 pub read-resources-spec : {M : Type 1} → statement M
 read-resources-spec =

@@ -15,7 +15,7 @@ power-at-requires : tie.Need-power-at-requires
 power-at-requires c κs = search needs
 
 returns : tie.Need-returns
-returns c =     let b = c .before .before .before .args .b .now in
+returns c = let b = c .before .before .before .args .b .now in
     let f : SFits w32 (c .before .id-at .result) = record { sfits = omega arith } in
     rw (resource-places b, toZ-ofZ f) (cc (c .before .id-at .ensures, c .power-at .ensures))
 

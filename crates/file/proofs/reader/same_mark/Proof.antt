@@ -10,7 +10,7 @@ first-byte-requires-2 : tie.Need-first-byte-requires-2
 first-byte-requires-2 c κs = search needs
 
 returns : tie.Need-returns
-returns c =     rw (c .before .first-byte .ensures, c .first-byte2 .ensures)
+returns c = rw (c .before .first-byte .ensures, c .first-byte2 .ensures)
 
 pub same-mark-spec : {M : Type 1} → statement M
 same-mark-spec = tie.close (tie.spec first-byte-requires first-byte-requires-2 returns)

@@ -35,9 +35,10 @@ power-at-requires-2 : tie.Need-power-at-requires-2
 power-at-requires-2 c κs = search needs
 
 returns : tie.Need-returns
-returns c =     let b = c .before .before .before .before .before .before .before .before .before .before .args .b .now in
+returns c = let b = c .before .before .before .before .before .before .before .before .before .before .args .b .now in
     rw (task-places b)
-    (cc (c .before .before .before .before .before .before .before .before .two-at .ensures .0,
+    (cc (
+      c .before .before .before .before .before .before .before .before .two-at .ensures .0,
       c .before .before .before .before .before .before .before .day-at .ensures,
       c .before .before .before .before .before .before .day-at2 .ensures,
       c .before .before .before .before .before .day-at3 .ensures,
@@ -45,7 +46,8 @@ returns c =     let b = c .before .before .before .before .before .before .befor
       c .before .before .before .day-at5 .ensures,
       c .before .before .day-at6 .ensures,
       c .before .power-at .ensures,
-      c .power-at2 .ensures))
+      c .power-at2 .ensures,
+    ))
 
 pub task-of-spec : {M : Type 1} → statement M
 task-of-spec =

@@ -1,24 +1,23 @@
-use Rattle.plan.specs.declared.Resource.{Resource}
 -- The records still to be stored, put into the buffer as it is now, give the buffer with all of them.
 use native.Mathlib.Omega.{arith}
-use mathlib.Core.Path.{_≡_, refl, sym, ap, subst, _∙_}
-use mathlib.Core.List.{map}
-use Prim.Native.Nat.{_+_, _*_, _-_, _≤_}
+use mathlib.Core.Path.{sym, ap, subst, _∙_}
+use Prim.Native.Nat.{_-_}
 use lib.ListN.{length}
-use lib.Seq.{sets, length-sets}
+use lib.Seq.{sets}
 use borrow.Author.Needs.{needs}
+use Rattle.plan.specs.declared.Resource.{Resource}
 use Rattle.rows.specs.View.{resourcesOf, noResource}
 use Rattle.rows.proofs.View.{length-resources}
 use Rattle.file.specs.declared.Mark.the-variants.{RS}
 use Rattle.file.specs.Format.{recordBytes, resourceNumbers}
-use Rattle.file.specs.Writing.{recordsBytes, ResourceSmall}
+use Rattle.file.specs.Writing.{ResourceSmall}
 use Rattle.file.proofs.Passed.{resource-held}
-use Rattle.file.proofs.Runs.{each-at, bytesFrom, store-step, store-end}
+use Rattle.file.proofs.Runs.{each-at, Storing, storing-starts, storing-goes-on, storing-ends}
 use Rattle.file.proofs.writer.put_resources.Statement.{statement}
 use Rattle.file.proofs.writer.put_resources.Tie as tie
 
 abbrev Inv-loop : tie.InvT-loop
-Inv-loop b₀ from q at₀ i₀ b at i = (i ≤ length q) × (at ≡ from + i * 10) × (length b ≡ length b₀) × (sets b at (bytesFrom RS resourceNumbers (resourcesOf q) i) ≡ sets b₀ from (recordsBytes RS (map resourceNumbers (resourcesOf q))))
+Inv-loop b₀ from q at₀ i₀ b at i = Storing RS resourceNumbers (resourcesOf q) b₀ from i at b
 
 abbrev μ-loop : tie.MeasureT-loop
 μ-loop b₀ from q at₀ i₀ b at i = length q - i
@@ -27,12 +26,12 @@ abbrev μ-loop : tie.MeasureT-loop
 small : (c : tie.After-resource-at Inv-loop μ-loop) → ResourceSmall (c .resource-at .result)
 small c =
     let s = c .before .before .before .before .before in
-    let i = c .before .before .before .loop .i in
+    let l = c .before .before .before .loop in
     subst (λ (x : Resource). ResourceSmall x) (sym (c .resource-at .ensures))
-    (each-at (s .pre .1) i noResource (omega (arith, length-resources (s .args .q .now), c .before .before .loop-test)))
+    (each-at (s .pre .1) (l .i) noResource (omega (arith, length-resources (s .args .q .now), c .before .before .loop-test)))
 
 loop-holds : tie.Need-loop-holds Inv-loop μ-loop
-loop-holds c = (omega arith, omega arith, refl, refl)
+loop-holds c = let s = c .before in storing-starts RS resourceNumbers (resourcesOf (s .args .q .now)) (s .args .b .now) (s .args .from)
 
 resource-at-requires : tie.Need-resource-at-requires Inv-loop μ-loop
 resource-at-requires c κs = search needs
@@ -51,25 +50,20 @@ loop-less c = omega arith
 
 loop-again : tie.Need-loop-again Inv-loop μ-loop
 loop-again c =
+    let s = c .before .before .before .before .before .before .before .before in
     let l = c .before .before .before .before .before .before .loop in
-    let a = c .before .before .before .before .before .before .before .before .args in
     let got = c .before .before .before .resource-at in
-    let put = c .before .before .put-resource in
-    let e = put .ensures ∙ ap (λ (x : Resource). sets (l .b) (l .at) (recordBytes RS (resourceNumbers x))) (got .ensures) in
-    (omega arith, omega arith,
-      ap length e ∙ length-sets (l .b) (l .at) (recordBytes RS (resourceNumbers _)) ∙ l .inv .2,
-      rw e
-      (sym (store-step RS resourceNumbers (resourcesOf (a .q .now)) noResource (l .b) (l .at) (l .i) (omega (arith, length-resources (a .q .now)))
-      (resource-held _ (subst (λ (x : Resource). ResourceSmall x) (got .ensures) (small (c .before .before .before))))) ∙ l .inv .3))
+    let e = c .before .before .put-resource .ensures ∙ ap (λ (x : Resource). sets (l .b) (l .at) (recordBytes RS (resourceNumbers x))) (got .ensures) in
+    let held = resource-held _ (subst (λ (x : Resource). ResourceSmall x) (got .ensures) (small (c .before .before .before))) in
+    storing-goes-on RS resourceNumbers (resourcesOf (s .args .q .now)) (s .args .b .now) (s .args .from) noResource (l .inv) (omega (arith, length-resources (s .args .q .now))) held e
 
 same-length : tie.Need-same-length Inv-loop μ-loop
 same-length c = search needs
 
 returns : tie.Need-returns Inv-loop μ-loop
 returns c =
-    let a = c .before .before .before .args in
-    let l = c .before .loop in
-    sym (store-end RS resourceNumbers (resourcesOf (a .q .now)) (l .b) (l .at) (l .i) (omega (arith, length-resources (a .q .now)))) ∙ l .inv .3
+    let s = c .before .before .before in
+    storing-ends RS resourceNumbers (resourcesOf (s .args .q .now)) (s .args .b .now) (s .args .from) (c .before .loop .inv) (omega (arith, length-resources (s .args .q .now)))
 
 pub put-resources-spec : {M : Type 1} → statement M
 put-resources-spec =

@@ -1,24 +1,23 @@
-use Rattle.plan.specs.declared.Task.{Task}
 -- The records still to be stored, put into the buffer as it is now, give the buffer with all of them.
 use native.Mathlib.Omega.{arith}
-use mathlib.Core.Path.{_≡_, refl, sym, ap, subst, _∙_}
-use mathlib.Core.List.{map}
-use Prim.Native.Nat.{_+_, _*_, _-_, _≤_}
+use mathlib.Core.Path.{sym, ap, subst, _∙_}
+use Prim.Native.Nat.{_-_}
 use lib.ListN.{length}
-use lib.Seq.{sets, length-sets}
+use lib.Seq.{sets}
 use borrow.Author.Needs.{needs}
+use Rattle.plan.specs.declared.Task.{Task}
 use Rattle.rows.specs.View.{tasksOf, noTask}
 use Rattle.rows.proofs.View.{length-tasks}
 use Rattle.file.specs.declared.Mark.the-variants.{TK}
 use Rattle.file.specs.Format.{recordBytes, taskNumbers}
-use Rattle.file.specs.Writing.{recordsBytes, TaskSmall}
+use Rattle.file.specs.Writing.{TaskSmall}
 use Rattle.file.proofs.Passed.{task-held}
-use Rattle.file.proofs.Runs.{each-at, bytesFrom, store-step, store-end}
+use Rattle.file.proofs.Runs.{each-at, Storing, storing-starts, storing-goes-on, storing-ends}
 use Rattle.file.proofs.writer.put_tasks.Statement.{statement}
 use Rattle.file.proofs.writer.put_tasks.Tie as tie
 
 abbrev Inv-loop : tie.InvT-loop
-Inv-loop b₀ from s at₀ i₀ b at i = (i ≤ length s) × (at ≡ from + i * 36) × (length b ≡ length b₀) × (sets b at (bytesFrom TK taskNumbers (tasksOf s) i) ≡ sets b₀ from (recordsBytes TK (map taskNumbers (tasksOf s))))
+Inv-loop b₀ from s at₀ i₀ b at i = Storing TK taskNumbers (tasksOf s) b₀ from i at b
 
 abbrev μ-loop : tie.MeasureT-loop
 μ-loop b₀ from s at₀ i₀ b at i = length s - i
@@ -27,12 +26,12 @@ abbrev μ-loop : tie.MeasureT-loop
 small : (c : tie.After-task-at Inv-loop μ-loop) → TaskSmall (c .task-at .result)
 small c =
     let s = c .before .before .before .before .before in
-    let i = c .before .before .before .loop .i in
+    let l = c .before .before .before .loop in
     subst (λ (x : Task). TaskSmall x) (sym (c .task-at .ensures))
-    (each-at (s .pre .1) i noTask (omega (arith, length-tasks (s .args .s .now), c .before .before .loop-test)))
+    (each-at (s .pre .1) (l .i) noTask (omega (arith, length-tasks (s .args .s .now), c .before .before .loop-test)))
 
 loop-holds : tie.Need-loop-holds Inv-loop μ-loop
-loop-holds c = (omega arith, omega arith, refl, refl)
+loop-holds c = let s = c .before in storing-starts TK taskNumbers (tasksOf (s .args .s .now)) (s .args .b .now) (s .args .from)
 
 task-at-requires : tie.Need-task-at-requires Inv-loop μ-loop
 task-at-requires c κs = search needs
@@ -51,25 +50,20 @@ loop-less c = omega arith
 
 loop-again : tie.Need-loop-again Inv-loop μ-loop
 loop-again c =
+    let s = c .before .before .before .before .before .before .before .before in
     let l = c .before .before .before .before .before .before .loop in
-    let a = c .before .before .before .before .before .before .before .before .args in
     let got = c .before .before .before .task-at in
-    let put = c .before .before .put-task in
-    let e = put .ensures ∙ ap (λ (x : Task). sets (l .b) (l .at) (recordBytes TK (taskNumbers x))) (got .ensures) in
-    (omega arith, omega arith,
-      ap length e ∙ length-sets (l .b) (l .at) (recordBytes TK (taskNumbers _)) ∙ l .inv .2,
-      rw e
-      (sym (store-step TK taskNumbers (tasksOf (a .s .now)) noTask (l .b) (l .at) (l .i) (omega (arith, length-tasks (a .s .now)))
-      (task-held _ (subst (λ (x : Task). TaskSmall x) (got .ensures) (small (c .before .before .before))))) ∙ l .inv .3))
+    let e = c .before .before .put-task .ensures ∙ ap (λ (x : Task). sets (l .b) (l .at) (recordBytes TK (taskNumbers x))) (got .ensures) in
+    let held = task-held _ (subst (λ (x : Task). TaskSmall x) (got .ensures) (small (c .before .before .before))) in
+    storing-goes-on TK taskNumbers (tasksOf (s .args .s .now)) (s .args .b .now) (s .args .from) noTask (l .inv) (omega (arith, length-tasks (s .args .s .now))) held e
 
 same-length : tie.Need-same-length Inv-loop μ-loop
 same-length c = search needs
 
 returns : tie.Need-returns Inv-loop μ-loop
 returns c =
-    let a = c .before .before .before .args in
-    let l = c .before .loop in
-    sym (store-end TK taskNumbers (tasksOf (a .s .now)) (l .b) (l .at) (l .i) (omega (arith, length-tasks (a .s .now)))) ∙ l .inv .3
+    let s = c .before .before .before in
+    storing-ends TK taskNumbers (tasksOf (s .args .s .now)) (s .args .b .now) (s .args .from) (c .before .loop .inv) (omega (arith, length-tasks (s .args .s .now)))
 
 pub put-tasks-spec : {M : Type 1} → statement M
 put-tasks-spec =
