@@ -1,10 +1,6 @@
 // Plan files: records of marked bytes, a cursor that hands them out one after another, a reader and a writer.
-<<<<<<< HEAD
-pub mod reader;
-=======
 mod fields;
-mod reader;
->>>>>>> file
+pub mod reader;
 mod writer;
 
 ghost use mathlib.Core.Path.{_≡_};
