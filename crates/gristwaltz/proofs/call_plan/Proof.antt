@@ -72,8 +72,8 @@ returns-2 c =
     let b = d .before .before in
     ap (λ (k : ℕ). fileResult k (b .args .out .now)) (c .refusal-number2 .ensures)
     ∙ sym (
-      plan-short (b .args .c) (b .args .sense) (qs b) (ts b) (b .args .out .now) (placed d true (is-true (d .is-placed .result) (c .before .before .if1 .left)))
-      (rw (long b) (c .before .if2 .taken))
+    plan-short (b .args .c) (b .args .sense) (qs b) (ts b) (b .args .out .now) (placed d true (is-true (d .is-placed .result) (c .before .before .if1 .left)))
+    (rw (long b) (c .before .if2 .taken))
     )
 
 work-plan-requires : tie.Need-work-plan-requires
@@ -94,8 +94,8 @@ returns-3 c =
     let b = d .before .before in
     c .before .before .before .work-plan .ensures
     ∙ sym (
-      plan-works (b .args .c) (b .args .sense) (qs b) (ts b) (b .args .out .now) (placed d true (is-true (d .is-placed .result) (c .before .before .before .before .before .before .before .if1 .left)))
-      (rw (long b) (c .before .before .before .before .before .before .if2 .left))
+    plan-works (b .args .c) (b .args .sense) (qs b) (ts b) (b .args .out .now) (placed d true (is-true (d .is-placed .result) (c .before .before .before .before .before .before .before .if1 .left)))
+    (rw (long b) (c .before .before .before .before .before .before .if2 .left))
     )
 
 pub call-plan-spec : {M : Type 1} → statement M

@@ -96,7 +96,7 @@ returns-2 c =
     let out = b .args .out .now in
     let file = written (b .args .sense) (qs b) (us w) in
     let long : length file ≤ length out =
-      omega (arith, length-written (b .args .sense) (qs b) (us w), length-tasks (c .before .before .before .before .before .before .before .before .before .before .before .before .worked .last .1 .1 .1 .0), length-resources (b .args .q .now), b .pre .2) in
+    omega (arith, length-written (b .args .sense) (qs b) (us w), length-tasks (c .before .before .before .before .before .before .before .before .before .before .before .before .worked .last .1 .1 .1 .0), length-resources (b .args .q .now), b .pre .2) in
     let e = c .before .before .put-plan .ensures ∙ fits-laid file out long in
     ap (fileResult (n .0 .0)) (ap (λ (x : WriteResult). x .buffer) e)
     ∙ ap (resultFile (b .args .sense) (qs b) out) (call-is w (Answer.Done (n .0 .0)) (n .1))
