@@ -1,0 +1,65 @@
+// Settles case 9 of the page from Rust, then a plan that has none: its output buffer has to be as it was.
+// Built and run by tests/40-embed; by hand: rustc examples/embed/settle.rs -C link-arg="$(tools/archive)" && ./settle
+
+// What libgristwaltz.a exports; a byte slice is a pointer and a length.
+mod engine {
+    extern "C" {
+        fn gristwaltz_settle(file: *const u8, file_len: usize, out: *mut u8, out_len: usize) -> u64;
+        fn gristwaltz_check(file: *const u8, file_len: usize) -> u64;
+    }
+
+    #[derive(Debug, PartialEq)]
+    pub enum Answer {
+        Done(u32),
+        Refused { number: u32, place: u32 },
+    }
+
+    fn answer(n: u64) -> Answer {
+        match (n >> 32) as u32 {
+            0 => Answer::Done(n as u32),
+            number => Answer::Refused { number, place: n as u32 },
+        }
+    }
+
+    /// Settles the plan of `file`; on success the settled plan's file is the front of `out`, on a refusal `out` is as it was.
+    pub fn settle(file: &[u8], out: &mut [u8]) -> Answer {
+        answer(unsafe { gristwaltz_settle(file.as_ptr(), file.len(), out.as_mut_ptr(), out.len()) })
+    }
+
+    pub fn check(file: &[u8]) -> Answer {
+        answer(unsafe { gristwaltz_check(file.as_ptr(), file.len()) })
+    }
+}
+
+fn plan(sense: u8, resources: &[(i32, i32)], tasks: &[(u16, [i32; 8])]) -> Vec<u8> {
+    let mut file = b"PL".to_vec();
+    file.extend([sense, resources.len() as u8]);
+    file.extend((tasks.len() as u16).to_le_bytes());
+    for (id, limit) in resources {
+        file.extend(b"RS");
+        file.extend(id.to_le_bytes());
+        file.extend(limit.to_le_bytes());
+    }
+    for (set, ranges) in tasks {
+        file.extend(b"TK");
+        file.extend(set.to_le_bytes());
+        for value in ranges {
+            file.extend(value.to_le_bytes());
+        }
+    }
+    file
+}
+
+fn main() {
+    let case_nine = plan(1, &[(7, 4), (9, 3)], &[(1, [1, 2, 2, 2, 3, 4, 0, 1]), (3, [0, 6, 2, 2, 2, 8, 0, 4])]);
+    let mut out = vec![0; case_nine.len()];
+    println!("case 9: {:?}", engine::settle(&case_nine, &mut out));
+    let settled = plan(1, &[(7, 4), (9, 3)], &[(1, [1, 2, 2, 2, 3, 4, 0, 1]), (1, [1, 2, 2, 2, 3, 4, 3, 4])]);
+    println!("the settled plan is {}", if out == settled { "the page's" } else { "another" });
+
+    let without_plan = plan(1, &[(7, 0)], &[(1, [5, 5, 1, 1, 6, 6, -1, -1])]);
+    let mut out = vec![0xa5; 100];
+    println!("no plan: {:?}", engine::settle(&without_plan, &mut out));
+    println!("the output is {}", if out == vec![0xa5; 100] { "as it was" } else { "changed" });
+    println!("cut short: {:?}", engine::check(&case_nine[..5]));
+}
