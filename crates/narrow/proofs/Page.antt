@@ -1,12 +1,12 @@
 -- The page's task from the searches' results: a task that is only here, one that may stand elsewhere too, and one that no rule touches.
-use mathlib.Core.Path.{_≡_, refl, sym, ap, ap₂, _∙_, subst}
-use mathlib.Core.Bool.{Bool, true, false}
-use mathlib.Core.List.{List, [], _∷_}
-use Prim.Native.Nat.{ℕ, _<_, _^_}
+use mathlib.Core.Path.{_≡_, refl, sym, ap, ap₂, _∙_}
+use mathlib.Core.Bool.{true, false}
+use mathlib.Core.List.{List}
+use Prim.Native.Nat.{ℕ, _<_}
 use lib.Dec.{eqb}
 use lib.IntN.{ℤ, pos, _+ℤ_, _-ℤ_}
 use lib.Signed.{ltZ, _≤ℤ_, _<ℤ_}
-use Rattle.integers.specs.Tests.{if, and, any}
+use Rattle.integers.specs.Tests.{if, any}
 use Rattle.integers.specs.Whole.{larger}
 use Rattle.integers.specs.Hull.{range, left}
 use Rattle.integers.specs.Hull.Left.{Some}
@@ -15,17 +15,14 @@ use Rattle.integers.proofs.Tests.{clash, by-cases, if-case, false-in, and-first
 use Rattle.plan.specs.declared.Task.{Task}
 use Rattle.plan.specs.declared.Span.{Span}
 use Rattle.plan.specs.declared.Power.{Power}
-use Rattle.plan.specs.declared.PowerSpan.{PowerSpan}
-use Rattle.plan.specs.declared.Narrowed.{Narrowed}
-use Rattle.plan.specs.declared.Narrowed.the-variants.{Kept, RanOut}
+use Rattle.plan.specs.declared.Narrowed.the-variants.{Kept}
 use Rattle.plan.specs.Powers.{powersOf}
 use Rattle.plan.specs.Sets.{has, only, without}
-use Rattle.rules.specs.Step.{possible, sure, shortfall, needed, barred, shut, keepsHeight, keptSet, narrowed, listedDays}
+use Rattle.rules.specs.Step.{possible, sure, shortfall, needed, barred, shut, keepsHeight, narrowed, listedDays}
 use Rattle.rules.proofs.Days.{In}
 use Rattle.rules.proofs.Live.{Live}
-use Rattle.rules.proofs.Quiet.{Quiet, narrowed-quiet}
+use Rattle.rules.proofs.Quiet.{narrowed-quiet}
 use Rattle.stretches.specs.declared.Stretch.{Stretch}
-use Rattle.stretches.specs.View.{onDay}
 use Rattle.stretches.specs.Tells.{Tells}
 use Rattle.narrow.specs.declared.Days.{Days}
 use Rattle.narrow.specs.Searches.{Freed, Longest, Needed, Least}
@@ -38,11 +35,11 @@ use Rattle.narrow.proofs.Freed.{freed-none}
 use Rattle.narrow.proofs.Whole.{height-flat, set-alone, height-same, least-full, height-lifted, set-needed, set-kept, set-same, narrowed-is}
 
 -- needs change neither durations nor heights
-pub needs-duration : (r : ℕ) (s : Days) (t : Task) → withNeeds r s t .duration ≡ t .duration
+needs-duration : (r : ℕ) (s : Days) (t : Task) → withNeeds r s t .duration ≡ t .duration
 unfolding withNeeds
 needs-duration r s t = if-case (λ (u : Task). u .duration ≡ t .duration) (ltZ (s .from .0) (t .end .high .0)) _ t (λ e. refl) (λ e. refl)
 
-pub needs-height : (r : ℕ) (s : Days) (t : Task) → withNeeds r s t .height ≡ t .height
+needs-height : (r : ℕ) (s : Days) (t : Task) → withNeeds r s t .height ≡ t .height
 unfolding withNeeds
 needs-height r s t = if-case (λ (u : Task). u .height ≡ t .height) (ltZ (s .from .0) (t .end .high .0)) _ t (λ e. refl) (λ e. refl)
 
@@ -65,15 +62,15 @@ module _ (r : ℕ) (limit : ℤ → ℤ) (ts : List Task) (t : Task) (fit : Fit 
           let g : h ≡ out .height .high .0 = ap (λ (p : Power). p .0) (sym (l .high)) in
           by-cases (ltZ (t .height .low .0) h)
           (λ e.
-            let p = l .raised e in
-            let x = p .slack in
-            let a = least-full r limit ts t fit k ss tells alone enough x (p .least) in
-            let i = p .is in
-            let f : h -ℤ x ≡ out .height .low .0 = omega (z, -z h x, -z h (larger x (pos 0)), maxz x (pos 0)) in
-            height-lifted r limit ts t fit k ss tells alone enough x (p .least) ∙ ap₂ (λ (x y : ℤ). Some (range x y)) f g)
+          let p = l .raised e in
+          let x = p .slack in
+          let a = least-full r limit ts t fit k ss tells alone enough x (p .least) in
+          let i = p .is in
+          let f : h -ℤ x ≡ out .height .low .0 = omega (z, -z h x, -z h (larger x (pos 0)), maxz x (pos 0)) in
+          height-lifted r limit ts t fit k ss tells alone enough x (p .least) ∙ ap₂ (λ (x y : ℤ). Some (range x y)) f g)
           (λ e.
-            let f : t .height .low .0 ≡ out .height .low .0 = ap (λ (p : Power). p .0) (sym (l .same e)) in
-            height-flat r limit ts t fit k enough (omega z) ∙ ap₂ (λ (x y : ℤ). Some (range x y)) f g)
+          let f : t .height .low .0 ≡ out .height .low .0 = ap (λ (p : Power). p .0) (sym (l .same e)) in
+          height-flat r limit ts t fit k enough (omega z) ∙ ap₂ (λ (x y : ℤ). Some (range x y)) f g)
 
       pub only-page : out .set ≡ u .set → Freed (shut r limit ts t) (t .duration .low .0) (u .origin) (out .origin) → Freed (shut r limit ts t) (t .duration .low .0) (earlier (t .duration .low .0) (u .end)) (earlier (t .duration .low .0) (out .end)) → out .duration .low .0 ≡ t .duration .low .0 → Longest (shut r limit ts t) (t .origin .low .0) (t .end .high .0) (t .duration .high .0) (out .duration .high .0) → Lifted t ss (out .height) → finished out ≡ narrowed r limit ts (listedDays ts) t
       only-page a o e d l h =
@@ -168,10 +165,11 @@ module _ (r : ℕ) (limit : ℤ → ℤ) (ts : List Task) (t : Task) (fit : Fit 
       (left-end r limit ts t k (t .end) (t .end)
       (still-cut (earlier du (t .end))
       (λ v a b i c d.
-        let a' : (t .end .low .0 -ℤ du) ≤ℤ v = a in
-        let b' : v ≤ℤ (t .end .high .0 -ℤ du) = b in
-        ( omega (z, -z i du, +z (i -ℤ du) (pos 1), -z (t .end .low .0) du),
-          omega (z, -z (t .end .high .0) du, +z ol du) )))
+      let a' : (t .end .low .0 -ℤ du) ≤ℤ v = a in
+      let b' : v ≤ℤ (t .end .high .0 -ℤ du) = b in (
+        omega (z, -z i du, +z (i -ℤ du) (pos 1), -z (t .end .low .0) du),
+        omega (z, -z (t .end .high .0) du, +z ol du),
+      )))
       (freed-none q dl (earlier dl (t .end)) never-shut))
       (height-flat r limit ts t fit k enough (still .height))
       (set-same r limit ts t fit k ss tells (still .alone) enough ∙ set-alone r limit ts t fit k ss tells (still .alone))

@@ -1,5 +1,5 @@
 -- Each test only where the one before holds.
-use mathlib.Core.Path.{_≡_, refl, sym, ap, ap₂, _∙_, subst}
+use mathlib.Core.Path.{_≡_, refl, sym, ap, _∙_}
 use mathlib.Core.Bool.{true, false}
 use lib.IntN.{_+ℤ_}
 use lib.Signed.{leZ}
@@ -41,7 +41,7 @@ returns c =
     let h₂ : leZ (t .end .high .0) (t .end .low .0) ≡ true = sym (m .until2 .ensures) ∙ j .before .if3 .taken in
     let h₃ : leZ (t .height .high .0) (t .height .low .0) ≡ true = sym (j .up-to .ensures) ∙ c .before .before .if4 .taken in
     let h₄ : leZ (t .end .high .0) (t .origin .low .0 +ℤ t .duration .high .0) ≡ true =
-      sym (c .until3 .ensures ∙ ap (λ (u : Day). leZ (t .end .high .0) (u .0)) (c .before .plus .ensures)) ∙ e in
+    sym (c .until3 .ensures ∙ ap (λ (u : Day). leZ (t .end .high .0) (u .0)) (c .before .plus .ensures)) ∙ e in
     record { alone = sym (o .only-resource .ensures) ∙ n .before .if1 .taken; origin = omega z; end = omega z; height = omega z; long = omega z }
 
 returns-2 : tie.Need-returns-2
