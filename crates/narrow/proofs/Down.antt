@@ -1,21 +1,21 @@
 -- The search for the last free value: k stretches are left, and those from k on are passed.
-use mathlib.Core.Path.{_≡_, refl, sym, ap, _∙_, subst}
-use mathlib.Core.Bool.{Bool, true, false, not}
-use mathlib.Core.List.{List, [], _∷_}
-use Prim.Native.Nat.{ℕ, zero, suc, _+_, _≤_, _<_}
+use mathlib.Core.Path.{_≡_, sym, subst}
+use mathlib.Core.Bool.{Bool, true, false}
+use mathlib.Core.List.{List}
+use Prim.Native.Nat.{ℕ, suc, _+_, _≤_, _<_}
 use native.Mathlib.Omega.{arith}
 use lib.ListN.{length, getD}
 use lib.IntN.{ℤ, pos, _+ℤ_, _-ℤ_}
-use lib.Signed.{leZ, ltZ, _≤ℤ_, _<ℤ_}
+use lib.Signed.{ltZ, _≤ℤ_, _<ℤ_}
 use mir.Syntax.{w64}
 use mir.Val.{SFits}
-use Rattle.integers.specs.Tests.{if, and}
+use Rattle.integers.specs.Tests.{and}
 use Rattle.integers.proofs.Z.{z, +z, -z, ltZ-in}
-use Rattle.integers.proofs.Tests.{clash, by-cases, if-case, and-first, and-second, and-in}
+use Rattle.integers.proofs.Tests.{clash, if-case, and-first, and-second, and-in}
 use Rattle.stretches.specs.declared.Stretch.{Stretch}
 use Rattle.stretches.specs.View.{noStretch}
 use Rattle.narrow.specs.declared.Part.{Part}
-use Rattle.narrow.specs.Searches.{OnPart, Found, Told, Hit, LastFree, Near, Placed, Short, back}
+use Rattle.narrow.specs.Searches.{OnPart, Told, Hit, LastFree, Near, Placed, Short, back}
 use Rattle.narrow.proofs.Order.{Rising}
 use Rattle.narrow.proofs.Up.{lt-cases, below-cases}
 

@@ -1,23 +1,21 @@
 -- The sums and differences of a task's values fit.
 use mathlib.Core.Path.{_≡_}
 use mathlib.Core.Bool.{true}
-use lib.IntN.{ℤ, pos, negsuc, negℤ, _+ℤ_, _-ℤ_}
+use lib.IntN.{ℤ, pos, negℤ, _+ℤ_, _-ℤ_}
 use lib.Signed.{ltZ, _≤ℤ_, _<ℤ_}
 use Prim.Native.Nat.{ℕ}
 use mir.Syntax.{w64}
 use mir.Val.{SFits}
 use Rattle.integers.specs.Whole.{larger}
-use Rattle.integers.specs.Tests.{if}
 use Rattle.integers.proofs.Z.{z, +z, -z, ~z, maxz, minz}
 use Rattle.integers.proofs.Tests.{if-case}
 use Rattle.plan.specs.declared.Task.{Task}
-use Rattle.plan.specs.declared.Span.{Span}
 use Rattle.plan.specs.Days.{cutTo, cutBelow, cutAbove}
 use Rattle.rules.specs.Calls.{rangesFit}
 use Rattle.narrow.specs.declared.Days.{Days}
 use Rattle.narrow.specs.Searches.{Between, Dated, Near, Close, Short}
 use Rattle.narrow.specs.Ready.{possibleDays, withNeeds}
-use Rattle.narrow.proofs.Others.{Fit, fit-out}
+use Rattle.narrow.proofs.Others.{fit-out}
 
 module _ (t : Task) (h : rangesFit t ≡ true) where
   pub fits-negated : SFits w64 (negℤ (t .height .high .0))

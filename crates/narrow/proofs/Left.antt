@@ -1,28 +1,26 @@
 -- Each range of the page, settled: the values that pass every day's rules run from the first to the last that the searches leave.
-use mathlib.Core.Path.{_≡_, refl, sym, ap, _∙_, subst}
+use mathlib.Core.Path.{_≡_}
 use mathlib.Core.Bool.{Bool, true, false, not}
-use mathlib.Core.List.{List, [], _∷_}
-use Prim.Native.Nat.{ℕ, _<_, _^_}
-use lib.ListN.{length, getD}
-use lib.IntN.{ℤ, pos, negℤ, _+ℤ_, _-ℤ_, predℤ}
+use mathlib.Core.List.{List}
+use Prim.Native.Nat.{ℕ, _<_}
+use lib.IntN.{ℤ, pos, _+ℤ_, _-ℤ_, predℤ}
 use lib.Signed.{leZ, ltZ, _≤ℤ_, _<ℤ_}
-use Rattle.integers.specs.Tests.{if, and, implies, any, all}
+use Rattle.integers.specs.Tests.{and, implies}
 use Rattle.integers.specs.Whole.{larger, smaller}
-use Rattle.integers.specs.Hull.{Range, range, within, Left, left}
-use Rattle.integers.specs.Hull.Left.{Nothing, Some}
-use Rattle.integers.proofs.Z.{z, +z, -z, ~z, maxz, minz, predz, leZ-in, ltZ-in, leZ-out}
+use Rattle.integers.specs.Hull.{Range, range, within, left}
+use Rattle.integers.proofs.Z.{z, +z, -z, maxz, minz, predz}
 use Rattle.integers.proofs.Tests.{clash, by-cases, if-case, false-in, and-first, and-second, and-in, implies-in, implies-out, not-in, not-out, all-in}
 use Rattle.integers.proofs.Hull.{Within, within-is, within-in, left-is, left-none}
 use Rattle.plan.specs.declared.Task.{Task}
 use Rattle.plan.specs.declared.Span.{Span}
-use Rattle.plan.specs.Days.{daysOf, emptySpan, cutTo, cutBelow, cutAbove}
-use Rattle.plan.specs.Sets.{has, only}
+use Rattle.plan.specs.Days.{daysOf, cutTo, cutBelow, cutAbove}
+use Rattle.plan.specs.Sets.{only}
 use Rattle.rules.specs.Step.{possible, needed, barred, shut, keepsOrigin, keepsDuration, keepsEnd, listedDays}
 use Rattle.rules.proofs.Days.{In, every-day}
 use Rattle.narrow.specs.declared.Days.{Days}
 use Rattle.narrow.specs.Searches.{Hit, Freed, room, TooLong, Longest, Needed}
 use Rattle.narrow.specs.Ready.{withNeeds, leftOf, earlier}
-use Rattle.narrow.proofs.Others.{Fit, possible-out, barred-is, needed-is}
+use Rattle.narrow.proofs.Others.{barred-is, needed-is}
 
 -- ---- what a test leaves of a range
 pub left-of : (p : ℤ → Bool) (s : Range) (out : Span) → s .low ≤ℤ out .low .0 → out .high .0 ≤ℤ s .high → (out .low .0 ≤ℤ out .high .0 → (p (out .low .0) ≡ true) × (p (out .high .0) ≡ true)) → ((v : ℤ) → Within s v → p v ≡ true → (out .low .0 ≤ℤ v) × (v ≤ℤ out .high .0)) → left p s ≡ leftOf out

@@ -1,17 +1,17 @@
 -- The longest duration that misses a day of every part that is hit, part by part.
 -- Day by day, a part of days a .. b - 1 leaves the least room of its days: that of a or of b - 1, or half the reach if the middle lies between.
-use mathlib.Core.Path.{_≡_, refl, sym, ap, _∙_, subst}
-use mathlib.Core.Bool.{Bool, true, false, not}
-use mathlib.Core.List.{List, [], _∷_}
-use Prim.Native.Nat.{ℕ, zero, suc, _+_, _/_, _≤_, _<_}
+use mathlib.Core.Path.{_≡_, sym, subst}
+use mathlib.Core.Bool.{Bool, true, false}
+use mathlib.Core.List.{List}
+use Prim.Native.Nat.{ℕ, _+_, _/_, _≤_, _<_}
 use native.Mathlib.Nat.{not-suc-le-zero}
 use native.Mathlib.Omega.{arith}
 use lib.ListN.{length, getD}
 use lib.IntN.{ℤ, pos, negsuc, _+ℤ_, _-ℤ_, predℤ}
-use lib.Signed.{leZ, ltZ, quotZ, _≤ℤ_, _<ℤ_}
+use lib.Signed.{ltZ, quotZ, _≤ℤ_, _<ℤ_}
 use mir.Syntax.{w64}
 use mir.Val.{SFits}
-use Rattle.integers.specs.Tests.{if, and}
+use Rattle.integers.specs.Tests.{and}
 use Rattle.integers.specs.Whole.{larger, smaller}
 use Rattle.integers.proofs.Z.{z, +z, -z, maxz, minz, predz, ltZ-in}
 use Rattle.integers.proofs.Tests.{clash, if-case, and-first, and-second, and-in}
@@ -19,7 +19,7 @@ use Rattle.stretches.specs.declared.Stretch.{Stretch}
 use Rattle.stretches.specs.View.{noStretch}
 use Rattle.narrow.specs.declared.Days.{Days}
 use Rattle.narrow.specs.declared.Part.{Part}
-use Rattle.narrow.specs.Searches.{OnPart, Found, Told, room, TooLong, Longest, Half, Dated, Placed, shorter}
+use Rattle.narrow.specs.Searches.{OnPart, Told, room, TooLong, Longest, Half, Dated, Placed, shorter}
 use Rattle.narrow.proofs.Up.{lt-cases, below-more}
 
 -- what a part of days a .. b - 1 leaves of the days low .. high - 1, of which h is half
@@ -35,7 +35,7 @@ record Met (low high h a b : ℤ) : Type 0 where
 
 module _ (low high h : ℤ) (half : Half low high h) where
   -- no day has less room than half
-  pub half-room : (i : ℤ) → h ≤ℤ room low high i
+  half-room : (i : ℤ) → h ≤ℤ room low high i
   half-room i =
       let x₁ = half .under in
       let x₂ = half .over in

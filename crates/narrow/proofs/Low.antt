@@ -1,14 +1,14 @@
 -- The least slack on the days of a task, stretch by stretch.
-use mathlib.Core.Path.{_≡_, refl, sym, ap, _∙_, subst}
-use mathlib.Core.Bool.{Bool, true, false}
-use mathlib.Core.List.{List, [], _∷_}
-use Prim.Native.Nat.{ℕ, zero, suc, _+_, _≤_, _<_}
+use mathlib.Core.Path.{_≡_, sym, ap, subst}
+use mathlib.Core.Bool.{true, false}
+use mathlib.Core.List.{List}
+use Prim.Native.Nat.{ℕ, _+_, _≤_, _<_}
 use native.Mathlib.Nat.{not-suc-le-zero}
 use native.Mathlib.Omega.{arith}
 use lib.ListN.{length, getD}
 use lib.IntN.{ℤ}
-use lib.Signed.{leZ, ltZ, _≤ℤ_, _<ℤ_}
-use Rattle.integers.specs.Tests.{if, and}
+use lib.Signed.{ltZ, _≤ℤ_, _<ℤ_}
+use Rattle.integers.specs.Tests.{if}
 use Rattle.integers.specs.Whole.{larger, smaller}
 use Rattle.integers.proofs.Z.{z, maxz, minz}
 use Rattle.integers.proofs.Tests.{if-case}
@@ -17,7 +17,7 @@ use Rattle.stretches.specs.declared.Stretch.{Stretch}
 use Rattle.stretches.specs.View.{noStretch, onDay}
 use Rattle.narrow.specs.declared.Days.{Days}
 use Rattle.narrow.specs.Searches.{holds, Slack, Least, lowered}
-use Rattle.narrow.proofs.Told.{On, on-in, on-out, Holds, holds-in, holds-out}
+use Rattle.narrow.proofs.Told.{on-in, on-out, holds-in, holds-out}
 use Rattle.narrow.proofs.Up.{below-more}
 
 -- the first k stretches are passed

@@ -1,22 +1,22 @@
 -- The days from the first to the last on which a task is needed, stretch by stretch.
-use mathlib.Core.Path.{_≡_, refl, sym, ap, _∙_, subst}
+use mathlib.Core.Path.{_≡_, sym, subst}
 use mathlib.Core.Bool.{Bool, true, false}
-use mathlib.Core.List.{List, [], _∷_}
-use Prim.Native.Nat.{ℕ, zero, suc, _+_, _≤_, _<_}
+use mathlib.Core.List.{List}
+use Prim.Native.Nat.{ℕ, _+_, _≤_, _<_}
 use native.Mathlib.Nat.{not-suc-le-zero}
 use native.Mathlib.Omega.{arith}
 use lib.ListN.{length, getD}
 use lib.IntN.{ℤ, predℤ}
-use lib.Signed.{leZ, ltZ, _≤ℤ_, _<ℤ_}
-use Rattle.integers.specs.Tests.{if, and}
+use lib.Signed.{ltZ, _≤ℤ_, _<ℤ_}
+use Rattle.integers.specs.Tests.{and}
 use Rattle.integers.specs.Whole.{larger, smaller}
 use Rattle.integers.proofs.Z.{z, maxz, minz, predz, ltZ-in}
-use Rattle.integers.proofs.Tests.{clash, by-cases, if-case, and-first, and-second, and-in}
+use Rattle.integers.proofs.Tests.{clash, if-case, and-first, and-second, and-in}
 use Rattle.stretches.specs.declared.Stretch.{Stretch}
 use Rattle.stretches.specs.View.{noStretch}
 use Rattle.narrow.specs.declared.Days.{Days}
 use Rattle.narrow.specs.declared.Part.{Part}
-use Rattle.narrow.specs.Searches.{partOf, OnPart, Found, Told, Needed, joined, Between}
+use Rattle.narrow.specs.Searches.{partOf, OnPart, Told, Needed, joined, Between}
 use Rattle.narrow.proofs.Up.{lt-cases, below-more}
 
 -- the first k stretches are passed

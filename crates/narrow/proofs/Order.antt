@@ -1,13 +1,9 @@
 -- Stretches in order: each has a day, and an earlier one ends before a later one begins.
-use mathlib.Core.Path.{_≡_, refl}
-use mathlib.Core.Bool.{Bool}
 use mathlib.Core.List.{List, [], _∷_}
-use Prim.Native.Nat.{ℕ, zero, suc, _<_, suc-le-suc, zero-le}
+use Prim.Native.Nat.{ℕ, zero, suc, _<_}
 use native.Mathlib.Nat.{not-suc-le-zero, le-of-suc-le-suc}
 use lib.ListN.{length, getD}
-use lib.IntN.{ℤ}
 use lib.Signed.{_≤ℤ_, _<ℤ_}
-use Rattle.integers.specs.Whole.{larger, smaller}
 use Rattle.integers.proofs.Z.{z, maxz, minz}
 use Rattle.stretches.specs.declared.Stretch.{Stretch}
 use Rattle.stretches.specs.View.{noStretch}

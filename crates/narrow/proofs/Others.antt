@@ -1,5 +1,5 @@
 -- One day of one task: its hope, its bar and its need in terms of the day's slack.
-use mathlib.Core.Path.{_≡_, refl, sym, ap, _∙_, subst}
+use mathlib.Core.Path.{_≡_, sym, subst}
 use mathlib.Core.Bool.{Bool, true, false, not}
 use mathlib.Core.List.{List, [], _∷_}
 use Prim.Native.Nat.{ℕ, zero, suc, _<_}
@@ -7,10 +7,9 @@ use native.Mathlib.Nat.{not-suc-le-zero, le-of-suc-le-suc}
 use lib.ListN.{length, getD}
 use lib.IntN.{ℤ, pos, negsuc, negℤ, _+ℤ_, _-ℤ_}
 use lib.Signed.{leZ, ltZ, _≤ℤ_, _<ℤ_}
-use Rattle.integers.specs.Tests.{if, and, any, all}
-use Rattle.integers.specs.Whole.{larger}
+use Rattle.integers.specs.Tests.{and, any}
 use Rattle.integers.proofs.Z.{z, +z, -z, ~z, maxz, leZ-in, ltZ-in}
-use Rattle.integers.proofs.Tests.{clash, by-cases, false-in, and-first, and-second, and-in, any-first, any-later, not-any, not-out}
+use Rattle.integers.proofs.Tests.{clash, by-cases, and-first, and-second, and-in, any-first, any-later, not-any, not-out}
 use Rattle.plan.specs.declared.Task.{Task}
 use Rattle.plan.specs.Days.{dayLow, dayHigh, durationLow, durationHigh, spanFits}
 use Rattle.plan.specs.Powers.{powersFit, powerLow, powerHigh}
@@ -105,7 +104,7 @@ module _ (r : ℕ) (i : ℤ) (t : Task) where
     pub late : t .origin .high .0 ≤ℤ i
     pub early : i <ℤ t .end .low .0
 
-  pub running-out : running r i t ≡ true → Running
+  running-out : running r i t ≡ true → Running
   unfolding running
   running-out h =
       let a = leZ (t .origin .high .0) i in
@@ -142,15 +141,15 @@ module _ (r : ℕ) (i : ℤ) (t : Task) where
   sure-possible f h = running-possible f (only-has (sure-only h)) (sure-running h)
 
   -- ---- the own hope
-  pub hope-high : ltZ (pos 0) (t .height .high .0) ≡ true → possible r i t ≡ true → hope r i t ≡ t .height .high .0
+  hope-high : ltZ (pos 0) (t .height .high .0) ≡ true → possible r i t ≡ true → hope r i t ≡ t .height .high .0
   unfolding hope
   hope-high h k = rw (h, k)
 
-  pub hope-none : ltZ (pos 0) (t .height .high .0) ≡ false → sure r i t ≡ false → hope r i t ≡ pos 0
+  hope-none : ltZ (pos 0) (t .height .high .0) ≡ false → sure r i t ≡ false → hope r i t ≡ pos 0
   unfolding hope
   hope-none h k = rw (h, k)
 
-  pub hope-sure : Fit t → sure r i t ≡ true → hope r i t ≡ t .height .high .0
+  hope-sure : Fit t → sure r i t ≡ true → hope r i t ≡ t .height .high .0
   unfolding hope
   hope-sure f k =
       by-cases (ltZ (pos 0) (t .height .high .0)) (λ h. hope-high h (sure-possible f k)) (λ h. rw (h, k))

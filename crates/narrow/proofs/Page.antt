@@ -1,12 +1,12 @@
 -- The page's task from the searches' results: a task that is only here, one that may stand elsewhere too, and one that no rule touches.
-use mathlib.Core.Path.{_≡_, refl, sym, ap, ap₂, _∙_, subst}
-use mathlib.Core.Bool.{Bool, true, false}
-use mathlib.Core.List.{List, [], _∷_}
-use Prim.Native.Nat.{ℕ, _<_, _^_}
+use mathlib.Core.Path.{_≡_, refl, sym, ap, ap₂, _∙_}
+use mathlib.Core.Bool.{true, false}
+use mathlib.Core.List.{List}
+use Prim.Native.Nat.{ℕ, _<_}
 use lib.Dec.{eqb}
 use lib.IntN.{ℤ, pos, _+ℤ_, _-ℤ_}
 use lib.Signed.{ltZ, _≤ℤ_, _<ℤ_}
-use Rattle.integers.specs.Tests.{if, and, any}
+use Rattle.integers.specs.Tests.{if, any}
 use Rattle.integers.specs.Whole.{larger}
 use Rattle.integers.specs.Hull.{range, left}
 use Rattle.integers.specs.Hull.Left.{Some}
@@ -15,17 +15,14 @@ use Rattle.integers.proofs.Tests.{clash, by-cases, if-case, false-in, and-first
 use Rattle.plan.specs.declared.Task.{Task}
 use Rattle.plan.specs.declared.Span.{Span}
 use Rattle.plan.specs.declared.Power.{Power}
-use Rattle.plan.specs.declared.PowerSpan.{PowerSpan}
-use Rattle.plan.specs.declared.Narrowed.{Narrowed}
-use Rattle.plan.specs.declared.Narrowed.the-variants.{Kept, RanOut}
+use Rattle.plan.specs.declared.Narrowed.the-variants.{Kept}
 use Rattle.plan.specs.Powers.{powersOf}
 use Rattle.plan.specs.Sets.{has, only, without}
-use Rattle.rules.specs.Step.{possible, sure, shortfall, needed, barred, shut, keepsHeight, keptSet, narrowed, listedDays}
+use Rattle.rules.specs.Step.{possible, sure, shortfall, needed, barred, shut, keepsHeight, narrowed, listedDays}
 use Rattle.rules.proofs.Days.{In}
 use Rattle.rules.proofs.Live.{Live}
-use Rattle.rules.proofs.Quiet.{Quiet, narrowed-quiet}
+use Rattle.rules.proofs.Quiet.{narrowed-quiet}
 use Rattle.stretches.specs.declared.Stretch.{Stretch}
-use Rattle.stretches.specs.View.{onDay}
 use Rattle.stretches.specs.Tells.{Tells}
 use Rattle.narrow.specs.declared.Days.{Days}
 use Rattle.narrow.specs.Searches.{Freed, Longest, Needed, Least}
@@ -38,11 +35,11 @@ use Rattle.narrow.proofs.Freed.{freed-none}
 use Rattle.narrow.proofs.Whole.{height-flat, set-alone, height-same, least-full, height-lifted, set-needed, set-kept, set-same, narrowed-is}
 
 -- needs change neither durations nor heights
-pub needs-duration : (r : ℕ) (s : Days) (t : Task) → withNeeds r s t .duration ≡ t .duration
+needs-duration : (r : ℕ) (s : Days) (t : Task) → withNeeds r s t .duration ≡ t .duration
 unfolding withNeeds
 needs-duration r s t = if-case (λ (u : Task). u .duration ≡ t .duration) (ltZ (s .from .0) (t .end .high .0)) _ t (λ e. refl) (λ e. refl)
 
-pub needs-height : (r : ℕ) (s : Days) (t : Task) → withNeeds r s t .height ≡ t .height
+needs-height : (r : ℕ) (s : Days) (t : Task) → withNeeds r s t .height ≡ t .height
 unfolding withNeeds
 needs-height r s t = if-case (λ (u : Task). u .height ≡ t .height) (ltZ (s .from .0) (t .end .high .0)) _ t (λ e. refl) (λ e. refl)
 

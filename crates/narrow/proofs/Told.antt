@@ -1,28 +1,27 @@
 -- From what a profile tells of a task: the days on which it is needed and those barred to it are parts of the stretches.
-use mathlib.Core.Path.{_≡_, refl, sym, ap, _∙_, subst}
+use mathlib.Core.Path.{_≡_, refl, sym, _∙_}
 use mathlib.Core.Bool.{Bool, true, false, not}
 use mathlib.Core.List.{List, [], _∷_}
 use Prim.Native.Nat.{ℕ, zero, suc, _<_, suc-le-suc, zero-le}
 use native.Mathlib.Nat.{not-suc-le-zero, le-of-suc-le-suc}
 use lib.ListN.{length, getD}
-use lib.IntN.{ℤ, pos, negℤ, _-ℤ_}
+use lib.IntN.{ℤ, pos}
 use lib.Signed.{leZ, ltZ, _≤ℤ_, _<ℤ_}
-use Rattle.integers.specs.Tests.{if, and, or, any}
+use Rattle.integers.specs.Tests.{and, any}
 use Rattle.integers.specs.Whole.{larger, smaller}
-use Rattle.integers.proofs.Z.{z, -z, maxz, minz, leZ-in, ltZ-in}
+use Rattle.integers.proofs.Z.{z, maxz, minz, leZ-in, ltZ-in}
 use Rattle.integers.proofs.Tests.{clash, by-cases, false-in, and-first, and-second, and-in, any-first, any-later, or-left, not-in, not-out}
 use Rattle.plan.specs.declared.Task.{Task}
 use Rattle.plan.specs.Sets.{has, only}
-use Rattle.rules.specs.Step.{possible, running, sure, total, shortfall, needed, barred, shut, listedDays}
+use Rattle.rules.specs.Step.{possible, running, sure, shortfall, needed, barred, shut, listedDays}
 use Rattle.rules.proofs.Days.{In}
 use Rattle.stretches.specs.declared.Stretch.{Stretch}
 use Rattle.stretches.specs.View.{noStretch, onDay}
 use Rattle.stretches.specs.Tells.{slackOn, tightOn, Tells}
 use Rattle.narrow.specs.declared.Days.{Days}
-use Rattle.narrow.specs.declared.Part.{Part}
 use Rattle.narrow.specs.Searches.{holds, partOf, barredPart, neededPart, OnPart, Found, Told}
 use Rattle.narrow.specs.Ready.{possibleDays, runningDays, under, reachOf}
-use Rattle.narrow.proofs.Others.{Fit, Possible, possible-in, possible-out, sure-only, sure-running, sure-in, only-has, barred-is, barred-in, barred-out, barred-sure, needed-is, needed-in, needed-out, no-short}
+use Rattle.narrow.proofs.Others.{Fit, possible-in, possible-out, sure-running, sure-in, only-has, barred-is, barred-in, barred-out, barred-sure, needed-is, needed-in, needed-out, no-short}
 
 -- ---- a place where a test holds
 pub record Place {A : Type 0} (f : A → Bool) (d : A) (xs : List A) : Type 0 where
@@ -81,7 +80,7 @@ pub record Inside (w : Days) (s : Stretch) (i : ℤ) : Type 0 where
   pub late : w .from .0 ≤ℤ i
   pub early : i <ℤ w .to .0
 
-pub part-out : (w : Days) (s : Stretch) (b : Bool) (i : ℤ) → OnPart (partOf w s b) i → Inside w s i
+part-out : (w : Days) (s : Stretch) (b : Bool) (i : ℤ) → OnPart (partOf w s b) i → Inside w s i
 part-out w s b i o =
     let x : larger (s .from .0) (w .from .0) ≤ℤ i = o .late in
     let y : i <ℤ smaller (s .to .0) (w .to .0) = o .early in
@@ -91,7 +90,7 @@ part-out w s b i o =
       early = omega (z, minz (s .to .0) (w .to .0));
     }
 
-pub part-in : (w : Days) (s : Stretch) (b : Bool) (i : ℤ) → b ≡ true → onDay i s ≡ true → w .from .0 ≤ℤ i → i <ℤ w .to .0 → OnPart (partOf w s b) i
+part-in : (w : Days) (s : Stretch) (b : Bool) (i : ℤ) → b ≡ true → onDay i s ≡ true → w .from .0 ≤ℤ i → i <ℤ w .to .0 → OnPart (partOf w s b) i
 part-in w s b i h o k l =
     let x = on-out s i o in
     record { hit = h; late = omega (z, maxz (s .from .0) (w .from .0)); early = omega (z, minz (s .to .0) (w .to .0)) }

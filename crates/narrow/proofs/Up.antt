@@ -1,26 +1,26 @@
 -- The search for the first free value, stretch by stretch: what holds once k stretches are passed, and why that is enough.
-use mathlib.Core.Path.{_≡_, refl, sym, ap, _∙_, subst}
-use mathlib.Core.Bool.{Bool, true, false, not}
-use mathlib.Core.List.{List, [], _∷_}
-use Prim.Native.Nat.{ℕ, zero, suc, _+_, _≤_, _<_}
+use mathlib.Core.Path.{_≡_, sym, subst}
+use mathlib.Core.Bool.{Bool, true, false}
+use mathlib.Core.List.{List}
+use Prim.Native.Nat.{ℕ, _+_, _≤_, _<_}
 use native.Mathlib.Nat.{not-suc-le-zero}
 use native.Mathlib.Omega.{arith}
 use borrow.Author.Tests.{ltb-true, ltb-false}
 use lib.Dec.{ltb}
 use lib.ListN.{length, getD}
-use lib.IntN.{ℤ, pos, negsuc, _+ℤ_, _-ℤ_}
-use lib.Signed.{leZ, ltZ, _≤ℤ_, _<ℤ_}
+use lib.IntN.{ℤ, pos, negsuc, _+ℤ_}
+use lib.Signed.{ltZ, _≤ℤ_, _<ℤ_}
 use mir.Syntax.{w64}
 use mir.Val.{SFits}
-use Rattle.integers.specs.Tests.{if, and}
+use Rattle.integers.specs.Tests.{and}
 use Rattle.integers.specs.Whole.{larger, smaller}
-use Rattle.integers.proofs.Z.{z, +z, -z, maxz, minz, ltZ-in}
+use Rattle.integers.proofs.Z.{z, +z, maxz, minz, ltZ-in}
 use Rattle.integers.proofs.Tests.{clash, by-cases, if-case, and-first, and-second, and-in}
 use Rattle.stretches.specs.declared.Stretch.{Stretch}
 use Rattle.stretches.specs.View.{noStretch}
 use Rattle.narrow.specs.declared.Part.{Part}
 use Rattle.narrow.specs.declared.Reach.{Reach}
-use Rattle.narrow.specs.Searches.{barredPart, OnPart, Found, Told, Hit, FirstFree, Near, Dated, Placed, Short, past}
+use Rattle.narrow.specs.Searches.{barredPart, OnPart, Told, Hit, FirstFree, Near, Dated, Placed, Short, past}
 use Rattle.narrow.proofs.Order.{Rising}
 
 pub lt-cases : {P : Type 0} (a b : ℤ) → (a <ℤ b → P) → (b ≤ℤ a → P) → P

@@ -1,21 +1,18 @@
 -- Heights and sets, and the page's task put together from its five values.
-use mathlib.Core.Path.{_≡_, refl, sym, ap, _∙_, subst}
+use mathlib.Core.Path.{_≡_, refl, sym, ap, _∙_}
 use mathlib.Core.Bool.{Bool, true, false, not}
-use mathlib.Core.List.{List, [], _∷_}
-use Prim.Native.Nat.{ℕ, _<_, _^_}
+use mathlib.Core.List.{List}
+use Prim.Native.Nat.{ℕ, _^_}
 use lib.Dec.{eqb}
-use lib.ListN.{length, getD}
-use lib.IntN.{ℤ, pos, negℤ, _+ℤ_, _-ℤ_}
-use lib.Signed.{leZ, ltZ, _≤ℤ_, _<ℤ_}
-use Rattle.integers.specs.Tests.{if, and, implies, any, all}
-use Rattle.integers.specs.Hull.{Range, range, Left, left}
-use Rattle.integers.specs.Hull.Left.{Nothing, Some}
-use Rattle.integers.proofs.Z.{z, +z, -z, ~z, leZ-in, ltZ-in}
+use lib.IntN.{ℤ, pos, _-ℤ_}
+use lib.Signed.{leZ, ltZ, _≤ℤ_}
+use Rattle.integers.specs.Tests.{if, and, implies, any}
+use Rattle.integers.specs.Hull.{range, Left, left}
+use Rattle.integers.specs.Hull.Left.{Some}
+use Rattle.integers.proofs.Z.{z, -z, leZ-in}
 use Rattle.integers.proofs.Tests.{clash, by-cases, if-case, false-in, and-first, and-second, and-in, implies-in, implies-out, all-in, any-none, not-any, not-out}
-use Rattle.integers.proofs.Hull.{Within, left-is}
+use Rattle.integers.proofs.Hull.{left-is}
 use Rattle.plan.specs.declared.Task.{Task}
-use Rattle.plan.specs.declared.Span.{Span}
-use Rattle.plan.specs.declared.PowerSpan.{PowerSpan}
 use Rattle.plan.specs.declared.Narrowed.{Narrowed}
 use Rattle.plan.specs.declared.Narrowed.the-variants.{Kept, RanOut}
 use Rattle.plan.specs.declared.Value.the-variants.{Origin, Duration, End, Height, Set}
@@ -23,7 +20,7 @@ use Rattle.plan.specs.Days.{daysOf, spanOf, emptySpan}
 use Rattle.plan.specs.Powers.{powersOf, powerSpanOf}
 use Rattle.plan.specs.Sets.{has, only, without}
 use Rattle.plan.proofs.Sets.{only-is}
-use Rattle.rules.specs.Step.{possible, running, sure, total, others, shortfall, needed, barred, shut, orRanOut, keepsOrigin, keepsDuration, keepsEnd, keepsHeight, neededSet, keptSet, narrowed, listedDays}
+use Rattle.rules.specs.Step.{possible, running, sure, total, others, shortfall, needed, barred, orRanOut, keepsOrigin, keepsDuration, keepsEnd, keepsHeight, neededSet, keptSet, narrowed, listedDays}
 use Rattle.rules.proofs.Days.{In, listed, every-day}
 use Rattle.stretches.specs.declared.Stretch.{Stretch}
 use Rattle.stretches.specs.View.{noStretch, onDay}
@@ -31,7 +28,7 @@ use Rattle.stretches.specs.Tells.{slackOn, Tells}
 use Rattle.narrow.specs.declared.Days.{Days}
 use Rattle.narrow.specs.Searches.{holds, Slack, Least, Needed}
 use Rattle.narrow.specs.Ready.{runningDays, under, withNeeds, leftOf, finished}
-use Rattle.narrow.proofs.Others.{Fit, Possible, possible-out, running-possible, sure-only, sure-running, sure-in, sure-possible, barred-is, barred-in, barred-out, needed-is, lifted-is, no-short}
+use Rattle.narrow.proofs.Others.{Fit, possible-out, running-possible, sure-only, sure-running, sure-in, sure-possible, barred-in, barred-out, needed-is, lifted-is, no-short}
 use Rattle.narrow.proofs.Told.{Place, any-place, holds-running, unsure, barred-place}
 
 module _ (r : ℕ) (limit : ℤ → ℤ) (ts : List Task) (t : Task) (fit : Fit t) (k : In t ts) where

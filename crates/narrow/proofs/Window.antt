@@ -1,6 +1,6 @@
 -- A part of the stretches that holds every possible day of a task tells as much of it as all of them.
-use mathlib.Core.Path.{_≡_, refl, sym, ap, _∙_, subst}
-use mathlib.Core.Bool.{Bool, true, false}
+use mathlib.Core.Path.{_≡_, sym, ap, _∙_, subst}
+use mathlib.Core.Bool.{true, false}
 use mathlib.Core.List.{List, [], _∷_}
 use Prim.Native.Nat.{ℕ, zero, suc, _+_, _-_, _≤_, _<_}
 use native.Mathlib.Omega.{arith}
@@ -8,21 +8,20 @@ use lib.Dec.{eqb}
 use lib.ListN.{length, take, drop, getD, length-take, length-drop}
 use lib.Seq.{getD-take, getD-drop}
 use lib.IntN.{ℤ}
-use lib.Signed.{leZ, ltZ, _≤ℤ_, _<ℤ_}
+use lib.Signed.{_≤ℤ_, _<ℤ_}
 use Rattle.integers.specs.Tests.{any}
 use Rattle.integers.proofs.Z.{z}
 use Rattle.integers.proofs.Tests.{clash, by-cases, false-in}
 use Rattle.plan.specs.declared.Task.{Task}
-use Rattle.plan.specs.declared.Narrowed.{Narrowed}
 use Rattle.plan.specs.declared.Narrowed.the-variants.{Kept}
-use Rattle.rules.specs.Step.{possible, sure, needed, barred, narrowed, listedDays}
+use Rattle.rules.specs.Step.{possible, needed, barred, narrowed, listedDays}
 use Rattle.rules.proofs.Quiet as rules
 use Rattle.stretches.specs.declared.Stretch.{Stretch}
 use Rattle.stretches.specs.View.{noStretch, onDay}
 use Rattle.stretches.specs.Tells.{Quiet, Exact, Uncut, Ordered, Tells}
 use Rattle.narrow.specs.Searches.{Begun}
 use Rattle.narrow.proofs.Others.{Fit, possible-out, sure-possible, barred-is, needed-is}
-use Rattle.narrow.proofs.Told.{Place, any-place, any-at, on-out}
+use Rattle.narrow.proofs.Told.{any-place, any-at, on-out}
 use Rattle.narrow.proofs.Order.{ordered-rest, ordered-full, ordered-apart}
 use Rattle.narrow.proofs.Up.{below-cases}
 use Rattle.narrow.proofs.Page.{live-fit}

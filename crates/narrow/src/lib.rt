@@ -5,13 +5,11 @@
 ghost use mathlib.Core.Path.{_≡_};
 ghost use mathlib.Core.Bool.{Bool, true, false, not};
 ghost use mathlib.Core.List.{List};
-ghost use Prim.Native.Nat.{ℕ, _-_, _≤_, _<_};
-ghost use lib.IntN.{ℤ, pos, negsuc, _+ℤ_, _-ℤ_};
-ghost use lib.Signed.{ltZ, leZ, _≤ℤ_, _<ℤ_};
+ghost use Prim.Native.Nat.{_-_, _≤_, _<_};
+ghost use lib.IntN.{ℤ, pos};
+ghost use lib.Signed.{ltZ, _≤ℤ_, _<ℤ_};
 ghost use lib.Dec.{eqb};
 ghost use lib.ListN.{length};
-ghost use mir.Syntax.{w64};
-ghost use mir.Val.{SFits};
 ghost use Rattle.integers.specs.Tests.{and, any};
 ghost use Rattle.plan.specs.Powers.{power};
 ghost use Rattle.plan.specs.Sets.{has, only};
@@ -20,7 +18,7 @@ ghost use Rattle.rules.specs.Step.{shortfall, listedDays, narrowed};
 ghost use Rattle.stretches.specs.View.{stretchesOf};
 ghost use Rattle.stretches.specs.Tells.{Ordered, Tells};
 ghost use Rattle.narrow.specs.Searches.{holds, partOf, barredPart, neededPart, Told, FirstFree, LastFree, Freed, Longest, Needed, Between, Least, Begun, Near, Close, Dated, Placed, Short, Half, past, back, shorter, joined, lowered};
-ghost use Rattle.narrow.specs.Ready.{Ready, Among, Known, possibleDays, runningDays, under, reachOf, withNeeds, NeedsTold, Lifted, Still, withoutHere, finished, earlier, later};
+ghost use Rattle.narrow.specs.Ready.{Ready, Among, Known, possibleDays, runningDays, under, reachOf, withNeeds, NeedsTold, Lifted, Still, withoutHere, finished, earlier};
 use plan::Day;
 use plan::Narrowed;
 use plan::Power;
@@ -37,7 +35,7 @@ pub struct Days {
 }
 
 impl Days {
-    pub fn holds(self, d: Day) -> bool
+    fn holds(self, d: Day) -> bool
         ensures { λ r. ⌜ r ≡ holds self (d .0) ⌝ }
     {
         let from = self.from;
@@ -46,7 +44,7 @@ impl Days {
     }
 
     // Those of the stretch's days that are among these.
-    pub fn part(self, s: Stretch, hit: bool) -> Part
+    fn part(self, s: Stretch, hit: bool) -> Part
         ensures { λ r. ⌜ r ≡ partOf self s hit ⌝ }
     {
         let from = s.from;
@@ -68,7 +66,7 @@ pub struct Reach {
 
 impl Reach {
     // A stretch of so little slack is barred, unless it is one of the sure days: no shortfall, so none of them is.
-    pub fn bars(self, from: Day, slack: Power) -> bool
+    fn bars(self, from: Day, slack: Power) -> bool
         ensures { λ r. ⌜ r ≡ and (ltZ (slack .0) (self .under .0)) (not (holds (self .sure) (from .0))) ⌝ }
     {
         let sure = self.sure;
@@ -79,7 +77,7 @@ impl Reach {
         }
     }
 
-    pub fn barred(self, s: Stretch) -> Part
+    fn barred(self, s: Stretch) -> Part
         ensures { λ r. ⌜ r ≡ barredPart self s ⌝ }
     {
         let days = self.days;
@@ -97,7 +95,7 @@ pub struct Part {
 
 impl Part {
     // v, or the first day past the part.
-    pub fn past(self, v: Day) -> Day
+    fn past(self, v: Day) -> Day
         ensures { λ r. ⌜ r .0 ≡ past self (v .0) ⌝ }
     {
         let from = self.from;
@@ -114,7 +112,7 @@ impl Part {
     }
 
     // v, or the last value whose d days end before the part.
-    pub fn back(self, d: Day, v: Day) -> Day
+    fn back(self, d: Day, v: Day) -> Day
         requires { ⌜ Placed self × Short (d .0) × Near (v .0) ⌝ }
         ensures { λ r. ⌜ r .0 ≡ back self (d .0) (v .0) ⌝ }
     {
@@ -136,7 +134,7 @@ impl Part {
     }
 
     // r, or the longest duration among the days w that misses one of the part's days.
-    pub fn shorter(self, w: Days, half: Day, r: Day) -> Day
+    fn shorter(self, w: Days, half: Day, r: Day) -> Day
         requires { ⌜ Placed self × Dated w ⌝ }
         ensures { λ x. ⌜ x .0 ≡ shorter self w (half .0) (r .0) ⌝ }
     {
@@ -158,7 +156,7 @@ impl Part {
     }
 
     // The days of s and of the part together.
-    pub fn joined(self, s: Days) -> Days
+    fn joined(self, s: Days) -> Days
         ensures { λ r. ⌜ r ≡ joined self s ⌝ }
     {
         let from = self.from;
@@ -181,7 +179,7 @@ impl Part {
 }
 
 // Less to spare than a height of h gives: the task is needed.
-pub fn needed_part(w: Days, h: Power, s: Stretch) -> Part
+fn needed_part(w: Days, h: Power, s: Stretch) -> Part
     ensures { λ r. ⌜ r ≡ neededPart w h s ⌝ }
 {
     let tight = s.tight;
@@ -189,7 +187,7 @@ pub fn needed_part(w: Days, h: Power, s: Stretch) -> Part
 }
 
 // x, or the stretch's slack where that is lower and one of its days is among w's.
-pub fn lowered(s: Stretch, w: Days, x: Power) -> Power
+fn lowered(s: Stretch, w: Days, x: Power) -> Power
     ensures { λ r. ⌜ r ≡ lowered s w x ⌝ }
 {
     let from = s.from;
@@ -203,7 +201,7 @@ pub fn lowered(s: Stretch, w: Days, x: Power) -> Power
 }
 
 // Half of so many days, rounded down.
-pub fn half_of(w: Days) -> Day
+fn half_of(w: Days) -> Day
     requires { ⌜ Dated w ⌝ }
     ensures { λ r. ⌜ Half (w .from .0) (w .to .0) (r .0) ⌝ }
 {
@@ -214,7 +212,7 @@ pub fn half_of(w: Days) -> Day
 }
 
 // The first value from low on that no barred day hits.
-pub fn first_free(ss: &[[i64; 4]], x: Reach, d: Day, low: Day) -> Day
+fn first_free(ss: &[[i64; 4]], x: Reach, d: Day, low: Day) -> Day
     requires { ⌜ Dated (x .days) × Short (d .0) × (pos 1 ≤ℤ d .0) × Near (low .0) ⌝ }
     ensures { λ r. ⌜ Near (r .0) × ((q : ℤ → Bool) → Told (barredPart x) (stretchesOf (now (ss .entry))) q → Ordered (stretchesOf (now (ss .entry))) → FirstFree q (d .0) (low .0) (r .0)) ⌝ }
 {
@@ -233,7 +231,7 @@ pub fn first_free(ss: &[[i64; 4]], x: Reach, d: Day, low: Day) -> Day
 }
 
 // The last value up to high that no barred day hits.
-pub fn last_free(ss: &[[i64; 4]], x: Reach, d: Day, high: Day) -> Day
+fn last_free(ss: &[[i64; 4]], x: Reach, d: Day, high: Day) -> Day
     requires { ⌜ Dated (x .days) × Short (d .0) × (pos 1 ≤ℤ d .0) × Near (high .0) ⌝ }
     ensures { λ r. ⌜ Near (r .0) × ((q : ℤ → Bool) → Told (barredPart x) (stretchesOf (now (ss .entry))) q → Ordered (stretchesOf (now (ss .entry))) → LastFree q (d .0) (high .0) (r .0)) ⌝ }
 {
@@ -252,7 +250,7 @@ pub fn last_free(ss: &[[i64; 4]], x: Reach, d: Day, high: Day) -> Day
 }
 
 // What bars leave of a range of origins, for a duration of d days: a low end above the high end where it is nothing.
-pub fn free_span(ss: &[[i64; 4]], x: Reach, d: Day, s: Span) -> Span
+fn free_span(ss: &[[i64; 4]], x: Reach, d: Day, s: Span) -> Span
     requires { ⌜ Dated (x .days) × Short (d .0) × Near (s .low .0) × Near (s .high .0) ⌝ }
     ensures { λ r. ⌜ (Near (r .low .0) × Near (r .high .0)) × ((q : ℤ → Bool) → Told (barredPart x) (stretchesOf (now (ss .entry))) q → Ordered (stretchesOf (now (ss .entry))) → Freed q (d .0) s r) ⌝ }
 {
@@ -276,7 +274,7 @@ pub fn free_span(ss: &[[i64; 4]], x: Reach, d: Day, s: Span) -> Span
 }
 
 // What bars leave of a range of ends: an end less d days is an origin.
-pub fn free_ends(ss: &[[i64; 4]], x: Reach, d: Day, s: Span) -> Span
+fn free_ends(ss: &[[i64; 4]], x: Reach, d: Day, s: Span) -> Span
     requires { ⌜ Dated (x .days) × Short (d .0) × Close (s .low .0) × Close (s .high .0) ⌝ }
     ensures { λ r. ⌜ ((q : ℤ → Bool) → Told (barredPart x) (stretchesOf (now (ss .entry))) q → Ordered (stretchesOf (now (ss .entry))) → Freed q (d .0) (earlier (d .0) s) (earlier (d .0) r)) ⌝ }
 {
@@ -300,7 +298,7 @@ pub fn free_ends(ss: &[[i64; 4]], x: Reach, d: Day, s: Span) -> Span
 }
 
 // The same two ends.
-pub fn same_span(a: Span, b: Span) -> bool
+fn same_span(a: Span, b: Span) -> bool
     ensures { λ r. ⌜ (r ≡ true → a ≡ b) ⌝ }
 {
     let low = a.low;
@@ -323,7 +321,7 @@ pub fn same_span(a: Span, b: Span) -> bool
 }
 
 // What bars leave of a range of ends, where o is what they leave of the origins s: most often the ends are the origins d days later.
-pub fn ends_after(ss: &[[i64; 4]], x: Reach, d: Day, end: Span, s: Span, o: Span) -> Span
+fn ends_after(ss: &[[i64; 4]], x: Reach, d: Day, end: Span, s: Span, o: Span) -> Span
     requires { ⌜ Dated (x .days) × Short (d .0) × (Close (end .low .0) × Close (end .high .0)) × Near (o .low .0) × Near (o .high .0) ⌝ }
     ensures { λ r. ⌜ ((q : ℤ → Bool) → Told (barredPart x) (stretchesOf (now (ss .entry))) q → Ordered (stretchesOf (now (ss .entry))) → Freed q (d .0) s o → Freed q (d .0) (earlier (d .0) end) (earlier (d .0) r)) ⌝ }
 {
@@ -345,7 +343,7 @@ pub fn ends_after(ss: &[[i64; 4]], x: Reach, d: Day, end: Span, s: Span, o: Span
 }
 
 // The longest duration up to most that misses a day of every barred part. Half the reach always does.
-pub fn longest(ss: &[[i64; 4]], x: Reach, most: Day) -> Day
+fn longest(ss: &[[i64; 4]], x: Reach, most: Day) -> Day
     requires { ⌜ Dated (x .days) ⌝ }
     ensures { λ r. ⌜ ((q : ℤ → Bool) → Told (barredPart x) (stretchesOf (now (ss .entry))) q → Longest q (x .days .from .0) (x .days .to .0) (most .0) (r .0)) ⌝ }
 {
@@ -365,7 +363,7 @@ pub fn longest(ss: &[[i64; 4]], x: Reach, most: Day) -> Day
 }
 
 // The least slack on the days w, up to most.
-pub fn least_slack(ss: &[[i64; 4]], w: Days, most: Power) -> Power
+fn least_slack(ss: &[[i64; 4]], w: Days, most: Power) -> Power
     ensures { λ x. ⌜ Least (stretchesOf (now (ss .entry))) w (most .0) (x .0) ⌝ }
 {
     let from = w.from;
@@ -383,7 +381,7 @@ pub fn least_slack(ss: &[[i64; 4]], w: Days, most: Power) -> Power
 }
 
 // From the first day of w on which a height of h is needed to past the last; w's ends the other way round where there is none.
-pub fn needed_days(ss: &[[i64; 4]], w: Days, h: Power) -> Days
+fn needed_days(ss: &[[i64; 4]], w: Days, h: Power) -> Days
     requires { ⌜ Dated w ⌝ }
     ensures { λ r. ⌜ Between w r × ((q : ℤ → Bool) → Told (neededPart w h) (stretchesOf (now (ss .entry))) q → Needed q (w .from .0) (w .to .0) r) ⌝ }
 {
@@ -403,7 +401,7 @@ pub fn needed_days(ss: &[[i64; 4]], w: Days, h: Power) -> Days
 }
 
 // "possible if .. origin low <= i < end high"
-pub fn possible_days(t: Task) -> Days
+fn possible_days(t: Task) -> Days
     ensures { λ r. ⌜ r ≡ possibleDays t ⌝ }
 {
     let origin = t.origin;
@@ -414,7 +412,7 @@ pub fn possible_days(t: Task) -> Days
 }
 
 // "origin high <= i < end low"
-pub fn running_days(t: Task) -> Days
+fn running_days(t: Task) -> Days
     ensures { λ r. ⌜ r ≡ runningDays t ⌝ }
 {
     let origin = t.origin;
@@ -425,7 +423,7 @@ pub fn running_days(t: Task) -> Days
 }
 
 // A positive highest height is in the slack already; one that is not positive is not, where the task is not sure.
-pub fn under(t: Task) -> Power
+fn under(t: Task) -> Power
     requires { ⌜ rangesFit t ≡ true ⌝ }
     ensures { λ r. ⌜ r ≡ power (under t) ⌝ }
 {
@@ -435,7 +433,7 @@ pub fn under(t: Task) -> Power
     zero.larger(high.negated())
 }
 
-pub fn reach_of(t: Task) -> Reach
+fn reach_of(t: Task) -> Reach
     requires { ⌜ rangesFit t ≡ true ⌝ }
     ensures { λ r. ⌜ r ≡ reachOf t ⌝ }
 {
@@ -447,7 +445,7 @@ pub fn reach_of(t: Task) -> Reach
 }
 
 // From the first day on which the task is needed to past the last.
-pub fn needs_of(ss: &[[i64; 4]], t: Task) -> Days
+fn needs_of(ss: &[[i64; 4]], t: Task) -> Days
     requires { ⌜ Dated (possibleDays t) ⌝ }
     ensures { λ r. ⌜ Between (possibleDays t) r × ((q : ℤ → Bool) → NeedsTold t (stretchesOf (now (ss .entry))) q → Needed q (t .origin .low .0) (t .end .high .0) r) ⌝ }
 {
@@ -467,7 +465,7 @@ pub fn needs_of(ss: &[[i64; 4]], t: Task) -> Days
 }
 
 // The needs of the days s joined: only the first and the last matter.
-pub fn with_needs(t: Task, r: u64, s: Days) -> Task
+fn with_needs(t: Task, r: u64, s: Days) -> Task
     requires { ⌜ Ready r t × Between (possibleDays t) s ⌝ }
     ensures { λ u. ⌜ u ≡ withNeeds r s t ⌝ }
 {
@@ -491,7 +489,7 @@ pub fn with_needs(t: Task, r: u64, s: Days) -> Task
 }
 
 // "a task sure on i has height at least L - others": the highest height less the slack.
-pub fn lifted(ss: &[[i64; 4]], t: Task) -> PowerSpan
+fn lifted(ss: &[[i64; 4]], t: Task) -> PowerSpan
     requires { ⌜ rangesFit t ≡ true ⌝ }
     ensures { λ h. ⌜ Lifted t (stretchesOf (now (ss .entry))) h ⌝ }
 {
@@ -509,7 +507,7 @@ pub fn lifted(ss: &[[i64; 4]], t: Task) -> PowerSpan
 }
 
 // The task, or the first of its values of which nothing is left.
-pub fn finish(t: Task) -> Narrowed
+fn finish(t: Task) -> Narrowed
     ensures { λ r. ⌜ r ≡ finished t ⌝ }
 {
     let origin = t.origin;
@@ -531,7 +529,7 @@ pub fn finish(t: Task) -> Narrowed
 }
 
 // A task that is only here.
-pub fn narrow_only(ss: &[[i64; 4]], t: Task, r: u64) -> Task
+fn narrow_only(ss: &[[i64; 4]], t: Task, r: u64) -> Task
     requires { ⌜ Ready r t × (t .origin .low .0 <ℤ t .end .high .0) ⌝ }
     ensures { λ u. ⌜ ((limit : ℤ → ℤ) (ts : List Task) → Known r limit ts t (stretchesOf (now (ss .entry))) → only (t .set) r ≡ true → finished u ≡ narrowed r limit ts (listedDays ts) t) ⌝ }
 {
@@ -560,7 +558,7 @@ pub fn narrow_only(ss: &[[i64; 4]], t: Task, r: u64) -> Task
 }
 
 // "r leaves its set"
-pub fn without_here(t: Task, r: u64) -> Task
+fn without_here(t: Task, r: u64) -> Task
     requires { ⌜ r < 64 ⌝ }
     ensures { λ u. ⌜ u ≡ withoutHere r t ⌝ }
 {
@@ -578,7 +576,7 @@ pub fn without_here(t: Task, r: u64) -> Task
 }
 
 // A task that may stand elsewhere too: bars take only this resource from it.
-pub fn narrow_shared(ss: &[[i64; 4]], t: Task, r: u64) -> Task
+fn narrow_shared(ss: &[[i64; 4]], t: Task, r: u64) -> Task
     requires { ⌜ Ready r t × (t .origin .low .0 <ℤ t .end .high .0) ⌝ }
     ensures { λ u. ⌜ ((limit : ℤ → ℤ) (ts : List Task) → Known r limit ts t (stretchesOf (now (ss .entry))) → only (t .set) r ≡ false → has (t .set) r ≡ true → finished u ≡ narrowed r limit ts (listedDays ts) t) ⌝ }
 {
@@ -593,7 +591,7 @@ pub fn narrow_shared(ss: &[[i64; 4]], t: Task, r: u64) -> Task
 }
 
 // A task that may stand here and has a possible day.
-pub fn narrow_here(ss: &[[i64; 4]], t: Task, r: u64) -> Narrowed
+fn narrow_here(ss: &[[i64; 4]], t: Task, r: u64) -> Narrowed
     requires { ⌜ Ready r t × (t .origin .low .0 <ℤ t .end .high .0) ⌝ }
     ensures { λ out. ⌜ ((limit : ℤ → ℤ) (ts : List Task) → Known r limit ts t (stretchesOf (now (ss .entry))) → has (t .set) r ≡ true → out ≡ narrowed r limit ts (listedDays ts) t) ⌝ }
 {
@@ -604,7 +602,7 @@ pub fn narrow_here(ss: &[[i64; 4]], t: Task, r: u64) -> Narrowed
 }
 
 // How many stretches begin before day d.
-pub fn begun(ss: &[[i64; 4]], d: Day) -> usize
+fn begun(ss: &[[i64; 4]], d: Day) -> usize
     ensures { λ r. ⌜ (r ≤ length (now (ss .entry))) × (Ordered (stretchesOf (now (ss .entry))) → Begun (stretchesOf (now (ss .entry))) (d .0) r r) ⌝ }
 {
     let mut low: usize = 0;
@@ -623,14 +621,14 @@ pub fn begun(ss: &[[i64; 4]], d: Day) -> usize
 }
 
 // Of so many, all but the last.
-pub fn but_last(n: usize) -> usize
+fn but_last(n: usize) -> usize
     ensures { λ r. ⌜ r ≡ n - 1 ⌝ }
 {
     if 0 < n { n - 1 } else { 0 }
 }
 
 // The stretches that can meet the task's possible days: from the last that begins before them to the last that begins on one of them.
-pub fn narrow_window(ss: &[[i64; 4]], t: Task, r: u64) -> Narrowed
+fn narrow_window(ss: &[[i64; 4]], t: Task, r: u64) -> Narrowed
     requires { ⌜ Ready r t × (t .origin .low .0 <ℤ t .end .high .0) ⌝ }
     ensures { λ out. ⌜ ((limit : ℤ → ℤ) (ts : List Task) → Known r limit ts t (stretchesOf (now (ss .entry))) → has (t .set) r ≡ true → out ≡ narrowed r limit ts (listedDays ts) t) ⌝ }
 {
@@ -647,7 +645,7 @@ pub fn narrow_window(ss: &[[i64; 4]], t: Task, r: u64) -> Narrowed
 }
 
 // One value each for origin, end and height, only here, and as long as its days.
-pub fn is_still(t: Task, r: u64) -> bool
+fn is_still(t: Task, r: u64) -> bool
     requires { ⌜ Ready r t ⌝ }
     ensures { λ b. ⌜ (b ≡ true → Still r t) ⌝ }
 {

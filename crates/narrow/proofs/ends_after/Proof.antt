@@ -1,11 +1,8 @@
 -- The origins found, moved, where the ranges agree; else the search.
-use mathlib.Core.Path.{_≡_, refl, sym, ap, ap₂, _∙_, subst}
-use mathlib.Core.Bool.{true, false}
-use lib.IntN.{_-ℤ_, _+ℤ_}
+use mathlib.Core.Path.{_≡_, sym, ap₂, _∙_, subst}
 use Rattle.plan.specs.declared.Day.{Day}
 use Rattle.plan.specs.declared.Span.{Span}
-use Rattle.plan.specs.Days.{day}
-use Rattle.narrow.specs.Searches.{Near, Freed}
+use Rattle.narrow.specs.Searches.{Freed}
 use Rattle.narrow.specs.Ready.{earlier, later}
 use Rattle.narrow.proofs.Up.{fits-plus}
 use Rattle.narrow.proofs.Freed.{freed-ends, fits-less}

@@ -1,9 +1,7 @@
 -- The tests in their order.
-use mathlib.Core.Path.{_≡_, refl, sym, ap, ap₂, _∙_}
-use mathlib.Core.Bool.{true, false}
+use mathlib.Core.Path.{sym, _∙_}
 use lib.Dec.{eqb}
 use Rattle.integers.proofs.Tests.{false-in}
-use Rattle.plan.specs.Days.{emptySpan}
 use Rattle.plan.proofs.Sets.{eqb-in, eqb-true}
 use Rattle.narrow.specs.Ready.{finished}
 use borrow.Author.Needs.{needs}

@@ -1,18 +1,17 @@
 -- Stretch by stretch: `Passed` is what holds once k stretches are passed.
 use native.Mathlib.Omega.{arith}
 use borrow.Author.Needs.{needs}
-use mathlib.Core.Path.{_≡_, refl, sym, ap, _∙_, subst}
+use mathlib.Core.Path.{_≡_, sym, ap, _∙_}
 use mathlib.Core.Bool.{Bool, true, false}
 use mathlib.Core.List.{List}
-use Prim.Native.Nat.{ℕ, _≤_, _<_, _-_}
-use lib.IntN.{ℤ, pos, _+ℤ_}
+use Prim.Native.Nat.{_≤_, _<_, _-_}
+use lib.IntN.{ℤ, _+ℤ_}
 use lib.ListN.{length, getD}
-use lib.Signed.{leZ, _≤ℤ_, _<ℤ_}
-use Rattle.integers.proofs.Z.{z, +z}
+use lib.Signed.{leZ, _<ℤ_}
+use Rattle.integers.proofs.Z.{z}
 use Rattle.stretches.specs.declared.Stretch.{Stretch}
 use Rattle.stretches.specs.View.{stretchesOf, noStretch}
 use Rattle.stretches.proofs.View.{length-stretches}
-use Rattle.narrow.specs.declared.Part.{Part}
 use Rattle.plan.specs.declared.Day.{Day}
 use Rattle.narrow.specs.Searches.{barredPart, Told, Near, past}
 use Rattle.narrow.proofs.Order.{bars-rise}

@@ -1,9 +1,7 @@
 -- The search for origins on the range moved by the duration.
-use mathlib.Core.Path.{_≡_, refl, sym, ap, ap₂, _∙_, subst}
-use lib.IntN.{_-ℤ_, _+ℤ_}
+use mathlib.Core.Path.{_≡_, sym, ap₂, subst}
 use Rattle.plan.specs.declared.Day.{Day}
 use Rattle.plan.specs.declared.Span.{Span}
-use Rattle.plan.specs.Days.{day}
 use Rattle.narrow.specs.Searches.{Near, Freed}
 use Rattle.narrow.specs.Ready.{earlier, later}
 use Rattle.narrow.proofs.Up.{fits-plus}

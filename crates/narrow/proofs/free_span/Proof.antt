@@ -1,8 +1,8 @@
 -- A task of no days is never hit; else the first free value, and the last unless the first lies past the range.
-use mathlib.Core.Path.{_≡_, refl, sym, ap, _∙_}
+use mathlib.Core.Path.{_≡_, sym, ap, _∙_}
 use mathlib.Core.Bool.{true, false}
 use lib.IntN.{pos}
-use lib.Signed.{ltZ, leZ, _≤ℤ_, _<ℤ_}
+use lib.Signed.{ltZ, leZ}
 use Rattle.integers.proofs.Z.{z}
 use Rattle.plan.specs.declared.Day.{Day}
 use Rattle.narrow.proofs.Freed.{freed-bare, freed-past, freed-both}

@@ -1,5 +1,5 @@
 -- The difference fits, and half of it is what the division gives.
-use mathlib.Core.Path.{_≡_, sym, ap, _∙_}
+use mathlib.Core.Path.{ap}
 use native.Mathlib.Omega.{arith}
 use lib.IntN.{pos}
 use Rattle.plan.specs.declared.Day.{Day}

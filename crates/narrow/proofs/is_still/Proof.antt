@@ -1,5 +1,5 @@
 -- Each test only where the one before holds.
-use mathlib.Core.Path.{_≡_, refl, sym, ap, ap₂, _∙_, subst}
+use mathlib.Core.Path.{_≡_, refl, sym, ap, _∙_}
 use mathlib.Core.Bool.{true, false}
 use lib.IntN.{_+ℤ_}
 use lib.Signed.{leZ}

@@ -1,18 +1,17 @@
 -- From the last stretch down: `PassedDown` is what holds once those from k on are passed.
 use native.Mathlib.Omega.{arith}
 use borrow.Author.Needs.{needs}
-use mathlib.Core.Path.{_≡_, refl, sym, ap, _∙_, subst}
+use mathlib.Core.Path.{_≡_, sym, ap, _∙_, subst}
 use mathlib.Core.Bool.{Bool, true, false}
 use mathlib.Core.List.{List}
 use Prim.Native.Nat.{ℕ, suc, _≤_, _<_, _-_}
-use lib.IntN.{ℤ, pos, _+ℤ_}
+use lib.IntN.{ℤ}
 use lib.ListN.{length, getD}
-use lib.Signed.{leZ, _≤ℤ_, _<ℤ_}
+use lib.Signed.{leZ, _<ℤ_}
 use Rattle.integers.proofs.Z.{z}
 use Rattle.stretches.specs.declared.Stretch.{Stretch}
 use Rattle.stretches.specs.View.{stretchesOf, noStretch}
 use Rattle.stretches.proofs.View.{length-stretches}
-use Rattle.narrow.specs.declared.Part.{Part}
 use Rattle.narrow.specs.Searches.{barredPart, Told, Near, back}
 use Rattle.narrow.proofs.Order.{bars-rise}
 use Rattle.narrow.proofs.Up.{barred-placed}

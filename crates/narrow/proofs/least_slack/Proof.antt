@@ -1,19 +1,14 @@
 -- Stretch by stretch, unless there is no day.
 use native.Mathlib.Omega.{arith}
 use borrow.Author.Needs.{needs}
-use mathlib.Core.Path.{_≡_, refl, sym, ap, _∙_, subst}
-use mathlib.Core.Bool.{Bool, true, false}
-use mathlib.Core.List.{List}
-use Prim.Native.Nat.{ℕ, suc, _≤_, _<_, _-_}
-use lib.IntN.{ℤ, pos, _+ℤ_}
-use lib.ListN.{length, getD}
-use lib.Signed.{leZ, _≤ℤ_, _<ℤ_}
+use mathlib.Core.Path.{_≡_, sym, _∙_}
+use mathlib.Core.Bool.{true}
+use Prim.Native.Nat.{_≤_, _-_}
+use lib.ListN.{length}
+use lib.Signed.{leZ}
 use Rattle.integers.proofs.Z.{z}
-use Rattle.stretches.specs.declared.Stretch.{Stretch}
-use Rattle.stretches.specs.View.{stretchesOf, noStretch}
+use Rattle.stretches.specs.View.{stretchesOf}
 use Rattle.stretches.proofs.View.{length-stretches}
-use Rattle.narrow.specs.declared.Part.{Part}
-use Rattle.narrow.specs.Searches.{Least}
 use Rattle.narrow.proofs.Low.{PassedLow, start, more, end, least-none}
 use Rattle.narrow.proofs.least_slack.Statement.{statement}
 use Rattle.narrow.proofs.least_slack.Tie as tie

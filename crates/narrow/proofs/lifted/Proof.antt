@@ -1,11 +1,10 @@
 -- The highest height less the least slack, unless the height has one value.
-use mathlib.Core.Path.{_≡_, refl, sym, ap, ap₂, _∙_, subst}
+use mathlib.Core.Path.{_≡_, refl, sym, ap, _∙_, subst}
 use mathlib.Core.Bool.{true, false}
-use lib.IntN.{ℤ, pos, _-ℤ_}
+use lib.IntN.{ℤ, _-ℤ_}
 use lib.Signed.{leZ, ltZ}
 use Rattle.integers.specs.Whole.{larger}
 use Rattle.integers.proofs.Z.{z}
-use Rattle.integers.proofs.Tests.{clash}
 use Rattle.plan.specs.declared.Power.{Power}
 use Rattle.stretches.specs.View.{stretchesOf}
 use Rattle.narrow.specs.declared.Days.{Days}

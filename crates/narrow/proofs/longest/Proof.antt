@@ -1,18 +1,17 @@
 -- Stretch by stretch, unless half the reach is enough.
 use native.Mathlib.Omega.{arith}
 use borrow.Author.Needs.{needs}
-use mathlib.Core.Path.{_≡_, refl, sym, ap, _∙_, subst}
-use mathlib.Core.Bool.{Bool, true, false}
+use mathlib.Core.Path.{_≡_, sym, ap, _∙_}
+use mathlib.Core.Bool.{Bool, true}
 use mathlib.Core.List.{List}
-use Prim.Native.Nat.{ℕ, suc, _≤_, _<_, _-_}
-use lib.IntN.{ℤ, pos, _+ℤ_}
+use Prim.Native.Nat.{_≤_, _<_, _-_}
+use lib.IntN.{ℤ}
 use lib.ListN.{length, getD}
-use lib.Signed.{leZ, _≤ℤ_, _<ℤ_}
+use lib.Signed.{leZ}
 use Rattle.integers.proofs.Z.{z}
 use Rattle.stretches.specs.declared.Stretch.{Stretch}
 use Rattle.stretches.specs.View.{stretchesOf, noStretch}
 use Rattle.stretches.proofs.View.{length-stretches}
-use Rattle.narrow.specs.declared.Part.{Part}
 use Rattle.narrow.specs.Searches.{barredPart, Told}
 use Rattle.narrow.proofs.Up.{barred-placed}
 use Rattle.narrow.proofs.Long.{PassedLong, start, more, end, short}

@@ -1,5 +1,5 @@
 -- The slack is compared only where a day is shared.
-use mathlib.Core.Path.{_≡_, sym, ap, _∙_}
+use mathlib.Core.Path.{_≡_, sym, _∙_}
 use mathlib.Core.Bool.{Bool}
 use lib.Signed.{ltZ}
 use Rattle.integers.specs.Whole.{larger, smaller}

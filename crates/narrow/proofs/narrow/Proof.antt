@@ -1,7 +1,7 @@
 -- A task with no possible day, one that may not stand here and one that nothing can change stay; any other is narrowed in its window.
-use mathlib.Core.Path.{_≡_, refl, sym, ap, ap₂, _∙_, subst}
+use mathlib.Core.Path.{_≡_, sym, ap, _∙_}
 use mathlib.Core.Bool.{true, false}
-use lib.Signed.{ltZ, _<ℤ_}
+use lib.Signed.{ltZ}
 use Rattle.integers.proofs.Z.{z}
 use Rattle.integers.proofs.Tests.{clash}
 use Rattle.plan.specs.Sets.{has}

@@ -1,8 +1,5 @@
 -- Each case by its own function.
-use mathlib.Core.Path.{_≡_, sym, ap, _∙_}
-use mathlib.Core.Bool.{true, false}
-use Rattle.plan.specs.Sets.{only}
-use Rattle.narrow.specs.Ready.{finished}
+use mathlib.Core.Path.{sym, _∙_}
 use borrow.Author.Needs.{needs}
 use Rattle.narrow.proofs.narrow_here.Statement.{statement}
 use Rattle.narrow.proofs.narrow_here.Tie as tie

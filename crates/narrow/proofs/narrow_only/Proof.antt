@@ -1,16 +1,12 @@
 -- Every search is that of the days on which the page bars the task or needs it.
-use mathlib.Core.Path.{_≡_, refl, sym, ap, ap₂, _∙_, subst}
-use mathlib.Core.Bool.{Bool}
-use mathlib.Core.List.{List}
-use lib.IntN.{ℤ, pos}
-use lib.Signed.{_<ℤ_}
+use mathlib.Core.Path.{refl, sym, ap, subst}
+use lib.IntN.{pos}
 use Rattle.plan.specs.declared.Task.{Task}
-use Rattle.plan.specs.declared.Span.{Span}
 use Rattle.rules.specs.Step.{needed, shut}
 use Rattle.stretches.specs.View.{stretchesOf}
 use Rattle.narrow.specs.declared.Reach.{Reach}
-use Rattle.narrow.specs.Searches.{barredPart, Told, Dated, Near, Close, Freed, Longest}
-use Rattle.narrow.specs.Ready.{reachOf, withNeeds, earlier}
+use Rattle.narrow.specs.Searches.{barredPart, Told, Dated, Freed, Longest}
+use Rattle.narrow.specs.Ready.{earlier}
 use Rattle.narrow.proofs.Others.{fit-out, among-in, only-has}
 use Rattle.narrow.proofs.Told.{bars-told}
 use Rattle.narrow.proofs.Fits.{Kept, dated, short-least, needs-close}

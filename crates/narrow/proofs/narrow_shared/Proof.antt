@@ -1,14 +1,9 @@
 -- Needs cut the ranges; the least slack on the running days tells whether a bar takes the resource away.
-use mathlib.Core.Path.{_≡_, refl, sym, ap, ap₂, _∙_, subst}
-use mathlib.Core.Bool.{Bool, true, false}
-use mathlib.Core.List.{List}
-use Prim.Native.Nat.{ℕ}
-use lib.IntN.{ℤ, pos}
-use lib.Signed.{ltZ, _<ℤ_}
-use Rattle.integers.specs.Tests.{if}
+use mathlib.Core.Path.{_≡_, refl, sym, ap, _∙_, subst}
+use mathlib.Core.Bool.{true, false}
+use lib.Signed.{ltZ}
 use Rattle.plan.specs.declared.Task.{Task}
 use Rattle.plan.specs.declared.Power.{Power}
-use Rattle.plan.specs.Sets.{without}
 use Rattle.rules.specs.Step.{needed}
 use Rattle.stretches.specs.View.{stretchesOf}
 use Rattle.narrow.specs.declared.Days.{Days}

@@ -1,11 +1,9 @@
 -- The stretches outside the window hold no possible day, so the part tells as much as the whole.
 use native.Mathlib.Omega.{arith}
-use mathlib.Core.Path.{_≡_, refl, sym, ap, _∙_, subst}
-use mathlib.Core.Bool.{true}
+use mathlib.Core.Path.{_≡_, sym, ap, _∙_, subst}
 use mathlib.Core.List.{List}
 use Prim.Native.Nat.{ℕ, _-_, _≤_, _<_}
 use lib.ListN.{length, take, drop, getD}
-use lib.IntN.{ℤ}
 use lib.Signed.{_≤ℤ_}
 use Rattle.plan.proofs.Sets.{has-not-zero}
 use Rattle.stretches.specs.declared.Stretch.{Stretch}
@@ -14,7 +12,6 @@ use Rattle.stretches.specs.Tells.{Ordered, Tells}
 use Rattle.stretches.proofs.View.{length-stretches, stretches-take, stretches-drop}
 use Rattle.narrow.specs.declared.Days.{Days}
 use Rattle.narrow.specs.Searches.{Begun}
-use Rattle.narrow.specs.Ready.{possibleDays}
 use Rattle.narrow.proofs.Others.{fit-out}
 use Rattle.narrow.proofs.Window.{begun-past, part-tells, none-page}
 use borrow.Author.Needs.{needs}

@@ -3,19 +3,15 @@ use Rattle.narrow.specs.declared.Days.{Days}
 use lib.Signed.{ltZ}
 use native.Mathlib.Omega.{arith}
 use borrow.Author.Needs.{needs}
-use mathlib.Core.Path.{_≡_, refl, sym, ap, _∙_, subst}
-use mathlib.Core.Bool.{Bool, true, false}
-use mathlib.Core.List.{List}
-use Prim.Native.Nat.{ℕ, suc, _≤_, _<_, _-_}
-use lib.IntN.{ℤ, pos, _+ℤ_}
+use mathlib.Core.Path.{_≡_, refl, ap, _∙_}
+use mathlib.Core.Bool.{Bool}
+use Prim.Native.Nat.{_≤_, _-_}
+use lib.IntN.{ℤ}
 use lib.ListN.{length, getD}
-use lib.Signed.{leZ, _≤ℤ_, _<ℤ_}
-use Rattle.integers.proofs.Z.{z}
-use Rattle.stretches.specs.declared.Stretch.{Stretch}
 use Rattle.stretches.specs.View.{stretchesOf, noStretch}
 use Rattle.stretches.proofs.View.{length-stretches}
 use Rattle.narrow.specs.declared.Part.{Part}
-use Rattle.narrow.specs.Searches.{partOf, neededPart, Told, Between, joined}
+use Rattle.narrow.specs.Searches.{neededPart, Told, Between, joined}
 use Rattle.narrow.proofs.Need.{PassedNeed, between-start, between-more, start, more, end}
 use Rattle.narrow.proofs.needed_days.Statement.{statement}
 use Rattle.narrow.proofs.needed_days.Tie as tie

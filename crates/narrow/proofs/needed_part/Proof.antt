@@ -1,5 +1,4 @@
 -- A part that is hit where the stretch is tight.
-use mathlib.Core.Path.{_≡_, sym, ap, _∙_}
 use borrow.Author.Needs.{needs}
 use Rattle.narrow.proofs.needed_part.Statement.{statement}
 use Rattle.narrow.proofs.needed_part.Tie as tie

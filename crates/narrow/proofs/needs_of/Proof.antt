@@ -1,13 +1,12 @@
 -- The search where the highest height is positive; else no day needs the task.
-use mathlib.Core.Path.{_≡_, refl, sym, ap, ap₂, _∙_, subst}
+use mathlib.Core.Path.{_≡_, sym, ap, _∙_, subst}
 use mathlib.Core.Bool.{Bool, true, false}
 use lib.IntN.{ℤ, pos}
 use lib.Signed.{ltZ}
-use Rattle.plan.specs.declared.Day.{Day}
 use Rattle.stretches.specs.View.{stretchesOf}
 use Rattle.narrow.specs.declared.Days.{Days}
 use Rattle.narrow.specs.Searches.{neededPart, Told, Between, Dated, Needed}
-use Rattle.narrow.specs.Ready.{possibleDays, NeedsTold}
+use Rattle.narrow.specs.Ready.{possibleDays}
 use Rattle.narrow.proofs.Need.{between-start, needed-none}
 use borrow.Author.Needs.{needs}
 use Rattle.narrow.proofs.needs_of.Statement.{statement}

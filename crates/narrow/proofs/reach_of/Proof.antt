@@ -1,5 +1,4 @@
 -- The parts of the reach.
-use mathlib.Core.Path.{_≡_, refl, sym, ap, ap₂, _∙_}
 use borrow.Author.Needs.{needs}
 use Rattle.narrow.proofs.reach_of.Statement.{statement}
 use Rattle.narrow.proofs.reach_of.Tie as tie

@@ -1,5 +1,5 @@
 -- Neither end lies before the other.
-use mathlib.Core.Path.{_≡_, refl, sym, ap, ap₂, _∙_, subst}
+use mathlib.Core.Path.{_≡_, refl, sym, ap₂, _∙_}
 use mathlib.Core.Bool.{true, false}
 use lib.IntN.{ℤ}
 use lib.Signed.{leZ}

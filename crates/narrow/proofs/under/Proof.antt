@@ -1,6 +1,6 @@
 -- The larger of 0 and the highest height negated.
-use mathlib.Core.Path.{_≡_, refl, sym, ap, ap₂, _∙_}
-use lib.IntN.{pos, negℤ}
+use mathlib.Core.Path.{ap, _∙_}
+use lib.IntN.{pos}
 use Rattle.integers.specs.Whole.{larger}
 use Rattle.plan.specs.declared.Power.{Power}
 use Rattle.plan.specs.Powers.{power}

@@ -1,5 +1,5 @@
 -- The four cuts, where some day is needed.
-use mathlib.Core.Path.{_≡_, refl, sym, ap, ap₂, _∙_}
+use mathlib.Core.Path.{_≡_, sym, ap, _∙_}
 use mathlib.Core.Bool.{true, false}
 use lib.IntN.{_+ℤ_, _-ℤ_}
 use lib.Signed.{ltZ}

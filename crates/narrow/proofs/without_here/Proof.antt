@@ -1,7 +1,6 @@
 -- The set alone changes.
-use mathlib.Core.Path.{_≡_, refl, sym, ap, ap₂, _∙_, subst}
+use mathlib.Core.Path.{ap}
 use Prim.Native.Nat.{ℕ}
-use Rattle.plan.specs.declared.Task.{Task}
 use borrow.Author.Needs.{needs}
 use Rattle.narrow.proofs.without_here.Statement.{statement}
 use Rattle.narrow.proofs.without_here.Tie as tie

@@ -1,5 +1,5 @@
 -- The two tests, the second only where the first holds.
-use mathlib.Core.Path.{_≡_, sym, ap, _∙_}
+use mathlib.Core.Path.{sym, _∙_}
 use Rattle.narrow.specs.Searches.{holds}
 use borrow.Author.Needs.{needs}
 use Rattle.narrow.proofs.Days.holds.Statement.{statement}

@@ -1,5 +1,4 @@
 -- The later of the first days, the earlier of the ends.
-use mathlib.Core.Path.{_≡_, sym, ap, _∙_}
 use borrow.Author.Needs.{needs}
 use Rattle.narrow.proofs.Days.part.Statement.{statement}
 use Rattle.narrow.proofs.Days.part.Tie as tie

@@ -1,6 +1,6 @@
 -- Each test only where the one before holds.
-use mathlib.Core.Path.{_≡_, sym, ap, _∙_}
-use mathlib.Core.Bool.{true, false}
+use mathlib.Core.Path.{_≡_, sym, _∙_}
+use mathlib.Core.Bool.{true}
 use lib.IntN.{_+ℤ_}
 use lib.Signed.{ltZ}
 use Rattle.narrow.proofs.Up.{fits-plus}

@@ -1,5 +1,5 @@
 -- Both ends, where the part is hit and has days.
-use mathlib.Core.Path.{_≡_, sym, ap, _∙_}
+use mathlib.Core.Path.{sym, _∙_}
 use borrow.Author.Needs.{needs}
 use Rattle.narrow.proofs.Part.joined.Statement.{statement}
 use Rattle.narrow.proofs.Part.joined.Tie as tie

@@ -1,5 +1,5 @@
 -- Each test only where the one before holds.
-use mathlib.Core.Path.{_≡_, sym, ap, _∙_}
+use mathlib.Core.Path.{sym, _∙_}
 use borrow.Author.Needs.{needs}
 use Rattle.narrow.proofs.Part.past.Statement.{statement}
 use Rattle.narrow.proofs.Part.past.Tie as tie

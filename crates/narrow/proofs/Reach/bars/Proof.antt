@@ -1,5 +1,5 @@
 -- The slack is tested first.
-use mathlib.Core.Path.{_≡_, sym, ap, _∙_}
+use mathlib.Core.Path.{sym, _∙_}
 use borrow.Author.Needs.{needs}
 use Rattle.narrow.proofs.Reach.bars.Statement.{statement}
 use Rattle.narrow.proofs.Reach.bars.Tie as tie
