@@ -4,3 +4,4 @@ pub mod Mask
 pub mod Passing
 pub mod Passes
 pub mod Calls
+pub mod Wrong
