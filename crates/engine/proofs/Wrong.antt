@@ -22,7 +22,7 @@ use Rattle.rules.specs.Allowed.{limitOn}
 use Rattle.rules.specs.Balance.{each, cuts, unlessEmpty, balanced, balance}
 use Rattle.rules.specs.Step.{possible, running, sure, hope, total, others, counts, shortfall, needed, barred, shut, keepsOrigin, keepsDuration, keepsEnd, keepsHeight, neededSet, keptSet, narrowed, least, greatest, listedDays, atLeastStep, resourceStep}
 use Rattle.rules.specs.Settle.{stepsFrom, pass}
-use Rattle.rules.specs.Calls.{Result, done, repeats, limits, rangesFit, setFits, tasksFit, check, balanceCall, passCall, settleCall}
+use Rattle.rules.specs.Calls.{Result, done, repeats, limits, rangesFit, setFits, tasksFit, check, stepAt, stepCall, passCall, settleCall}
 use Rattle.rules.specs.Cases.{Case, pageCases, case9Resources, case9Before, case9After}
 use Rattle.rules.proofs.Cases.{page-cases}
 use Rattle.rows.specs.View.{noTask}
@@ -86,31 +86,33 @@ pub changes-nothing : (a : Answer) → Keeps9 a case9Before → ⊥
 changes-nothing (Refused f) h = refuses-everything f case9Before h
 changes-nothing (Done n) h = let e : _≡_ {A = ℕ} 3 1 = ap (λ x. second (x .tasks) .set) (h ∙ case9-settles) in absurd (omega arith)
 
--- ---- one that narrows in the first step only: balance, of the first pass
-abbrev balancedOnly : List Task
-balancedOnly = balanceCall case9Resources case9Before .tasks
+-- ---- one that narrows in the first step only: balance leaves case 9 as it is and the first resource's step narrows its second task, but
+-- only the second pass finds that task's least height
+ends-early : (us : List Task) → lowHeight us ≡ 0 → (a : Answer) → Keeps9 a us → ⊥
+ends-early us low (Refused f) h = refuses-everything f us h
+ends-early us low (Done n) h =
+    let e : _≡_ {A = ℕ} 0 3 = sym low ∙ ap (λ x. lowHeight (x .tasks)) (h ∙ case9-settles) in absurd (omega arith)
 
-set-balanced : second balancedOnly .set ≡ 3
-unfolding balanceCall check tasksFit setFits rangesFit limits repeats balance balanced unlessEmpty cuts each powersFit powerFits spanFits cutTo cutAbove cutBelow any
-set-balanced = refl
+abbrev firstStep : List Task
+firstStep = stepCall AtLeast 0 case9Resources case9Before .tasks
 
-pub narrows-at-first : (a : Answer) → Keeps9 a balancedOnly → ⊥
-narrows-at-first (Refused f) h = refuses-everything f balancedOnly h
-narrows-at-first (Done n) h =
-    let e : _≡_ {A = ℕ} 3 1 = sym set-balanced ∙ ap (λ x. second (x .tasks) .set) (h ∙ case9-settles) in absurd (omega arith)
+height-stepped : lowHeight firstStep ≡ 0
+unfolding stepCall stepAt check tasksFit setFits rangesFit limits repeats resourceStep atLeastStep listedDays greatest least narrowed keptSet neededSet keepsHeight keepsEnd keepsDuration keepsOrigin shut barred needed shortfall counts others total hope sure running possible each limitOn without only has powersFit powerFits spanFits left hull last values countOf upFrom within sumOf any all filter
+height-stepped = refl
 
--- the same with all steps of the first pass and no further pass: the height is left as it was
-abbrev passedOnce : List Task
-passedOnce = passCall AtLeast case9Resources case9Before .tasks
+pub narrows-at-first : (a : Answer) → Keeps9 a firstStep → ⊥
+narrows-at-first = ends-early firstStep height-stepped
 
-height-passed : lowHeight passedOnce ≡ 0
+-- the same with every step of the first pass, and no further pass
+abbrev firstPass : List Task
+firstPass = passCall AtLeast case9Resources case9Before .tasks
+
+height-passed : lowHeight firstPass ≡ 0
 unfolding passCall check tasksFit setFits rangesFit limits repeats pass stepsFrom resourceStep atLeastStep listedDays greatest least narrowed keptSet neededSet keepsHeight keepsEnd keepsDuration keepsOrigin shut barred needed shortfall counts others total hope sure running possible balance balanced unlessEmpty cuts each limitOn without only has powersFit powerFits spanFits cutTo cutAbove cutBelow left hull last values countOf upFrom within sumOf any all filter
 height-passed = refl
 
-pub passes-once : (a : Answer) → Keeps9 a passedOnce → ⊥
-passes-once (Refused f) h = refuses-everything f passedOnce h
-passes-once (Done n) h =
-    let e : _≡_ {A = ℕ} 0 3 = sym height-passed ∙ ap (λ x. lowHeight (x .tasks)) (h ∙ case9-settles) in absurd (omega arith)
+pub passes-once : (a : Answer) → Keeps9 a firstPass → ⊥
+passes-once = ends-early firstPass height-passed
 
 -- ---- one with an invented pass count: case 9 has no other, and no one count serves both plans
 pub count-is : (n : ℕ) (us : List Task) → Keeps9 (Done n) us → n ≡ 3
