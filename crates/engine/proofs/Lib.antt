@@ -1,6 +1,7 @@
--- The laws of the engine: what faces it, the mask, the steps of a pass, and the passes of settling.
+-- The laws of the engine: what faces it, the mask, the steps of a pass, the passes of settling, and the wrong programs shut out.
 pub mod Facing
 pub mod Mask
 pub mod Passing
 pub mod Passes
 pub mod Calls
+pub mod Wrong
