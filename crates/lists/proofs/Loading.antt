@@ -80,6 +80,10 @@ body ρ z n none fewer =
     (seq (assign (place 5 []) (rvOpd (int w64 0)))
     (seq (block (loop (turn ρ z))) rest)))))
 
+-- what is returned: the array and the list's length
+abbrev pub loaded : Val → ℕ → Val
+loaded v n = vstruct (ofList (v ∷ vint w64 n ∷ []))
+
 module _ (T : Declared) (L : LL.Laws T) (cs : LL.Copyables (T .parts)) (pl : Plains (fields T)) (N : ℕ) (d : T .D) (σ : Ty) where
   abbrev Rt : RattleType
   Rt = R T L
@@ -92,9 +96,6 @@ module _ (T : Declared) (L : LL.Laws T) (cs : LL.Copyables (T .parts)) (pl : Pla
 
   abbrev slice : Ty
   slice = sliceTy (tyRef (named 0) imm (pointee (Rt .written)))
-
-  abbrev loaded : Val → ℕ → Val
-  loaded v n = vstruct (ofList (v ∷ vint w64 n ∷ []))
 
   module _ {M : Type 1} (𝓤 : URA M) (H : Heap 𝓤) (A : Atoms 𝓤) (W : Given 𝓤 H A) (𝓣 : Tables 𝓤 H) (κ : Lft) (q : Share) (b o : ℕ) (γ : GName) (ys : List (T .D)) (Post : Val → SProp 𝓤)
       (gn : Room Rt (length ys)) (gN : N < 2 ^ 64) (gz : Holds (ltb z (2 ^ 64))) (gL : Holds (ltb N (2 ^ 64))) (l₀ l₁ l₂ l₃ l₄ l₅ l₆ l₇ l₈ l₉ l₁₀ l₁₁ l₁₂ l₁₃ l₁₄ : ℕ) where
