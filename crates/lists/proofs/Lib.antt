@@ -3,3 +3,4 @@ pub mod Firsts
 pub mod Rows
 pub mod Calls
 pub mod Loading
+pub mod Load

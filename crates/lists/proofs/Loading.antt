@@ -94,7 +94,7 @@ module _ (T : Declared) (L : LL.Laws T) (cs : LL.Copyables (T .parts)) (pl : Pla
   abbrev z : ℕ
   z = mem Rt .size
 
-  abbrev slice : Ty
+  abbrev pub slice : Ty
   slice = sliceTy (tyRef (named 0) imm (pointee (Rt .written)))
 
   module _ {M : Type 1} (𝓤 : URA M) (H : Heap 𝓤) (A : Atoms 𝓤) (W : Given 𝓤 H A) (𝓣 : Tables 𝓤 H) (κ : Lft) (q : Share) (b o : ℕ) (γ : GName) (ys : List (T .D)) (Post : Val → SProp 𝓤)
