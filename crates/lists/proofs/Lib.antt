@@ -4,3 +4,4 @@ pub mod Rows
 pub mod Calls
 pub mod Loading
 pub mod Load
+pub mod Storing
