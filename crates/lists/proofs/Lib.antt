@@ -5,3 +5,4 @@ pub mod Calls
 pub mod Loading
 pub mod Load
 pub mod Storing
+pub mod Store
