@@ -37,12 +37,11 @@ use denote.Steps.{nothing, owned, only}
 use denote.Struct.Declared.{Declared, fields}
 use denote.Struct.Struct.{Plains}
 use denote.Struct.Laws as LL
-use denote.Triple.Call.{calls-from}
 use Rattle.integers.proofs.Loops.{over, over-none, over-more}
 use Rattle.lists.specs.Loaded.{firsts}
 use Rattle.lists.proofs.Firsts.{over-length, over-firsts}
 use Rattle.lists.proofs.Rows.{R, τ, one, many, same, typed, apart, whole as array-at}
-use Rattle.lists.proofs.Calls.{Answers}
+use Rattle.lists.proofs.Calls.{Answer, Answers, calls-told}
 
 abbrev word : Ty
 word = tyInt w64
@@ -242,21 +241,23 @@ module _ (T : Declared) (L : LL.Laws T) (cs : LL.Copyables (T .parts)) (pl : Pla
           ∷ ‵ (froom (tyArray ρ N) l₃ 0) ∷ ‵ (fdies (tyArray ρ N) l₃) ∷ ‵ (froom ρ l₂ 0) ∷ ‵ (fdies ρ l₂) ∷ ‵ (fat fullShare slice l₁ 0 (sliceVal (b, o) n)) ∷ ‵ (fdies slice l₁) ∷ ‵ (froom σ l₀ 0) ∷ ‵ (fdies σ l₀)
           ∷ (‵ (flft κ q) ⊛ ‵ ftrue) ∷ ‵ (owns (ShrSlice (named 0) κ Rt ∷ []) (ref, tt) (sliceVal (b, o) n ∷ [], tt)) ∷ []
 
-      pub starts : (none fewer : Name) → Answers 𝓤 H A W 𝓣 none [] Rt d → Answers 𝓤 H A W 𝓣 fewer (vint w64 n ∷ vint w64 N ∷ []) usize m
+      pub starts : (none fewer : Name) → Answers 𝓤 H A W 𝓣 none [] Rt (λ r. r ≡ d) → Answers 𝓤 H A W 𝓣 fewer (vint w64 n ∷ vint w64 N ∷ []) usize (λ r. r ≡ m)
           → ent 𝓤 (⋆ 𝓤 H A Ctx) (Wp 𝓤 H C Λ En (body ρ z N none fewer) (atReturn 𝓤 H En Post))
       starts none fewer made least =
           qed W Ctx ∵ exec ! C Λ En (body ρ z N none fewer) (atRet En Post) $ nothing ! $
-          calls-from ! (fmOf 𝓤 H (W .laws) 𝓣) (‵ ftrue) [] _ made (no-more !) (λ v. use1 W (later (given (Is Rt d (v ∷ [])) (‵ ftrue))) (id⊢ 𝓤 _) $ await ! tt $ learn ! (λ gd. drop ! $
-          land ! (from ! (stop !)) (init ! 24 refl (LL.lawful T L 𝓤 H A W .typed d _ gd .0)) $
-          assigns ! (rep ! N (load ! (from ! (stop !)) (look ! 24 refl))) (from ! (stop !)) (init ! 22 refl (typed T L 𝓤 H A W N filled (arrayVal (replicate N v)) (same T L N d v gd))) $
+          calls-told ! (fmOf 𝓤 H (W .laws) 𝓣) (‵ ftrue) [] _ (λ _. ‵ ftrue) made (no-more !) (λ v r h. drop ! $
+          land ! (from ! (stop !)) (init ! 24 refl (LL.lawful T L 𝓤 H A W .typed d _ (is-none v r h) .0)) $
+          assigns ! (rep ! N (load ! (from ! (stop !)) (look ! 24 refl))) (from ! (stop !)) (init ! 22 refl (typed T L 𝓤 H A W N filled (arrayVal (replicate N v)) (same T L N d v (is-none v r h)))) $
           assigns ! (of-opd ! (load ! (from ! (fld ! refl (stop !))) (look-in ! 26 (sub ! 1 refl (whole !))))) (from ! (stop !)) (init ! 16 refl (tt, record { fits = gn .0 })) $ nothing ! $
-          calls-from ! (fmOf 𝓤 H (W .laws) 𝓣) (‵ ftrue) (vint w64 n ∷ vint w64 N ∷ []) _ least (and-then ! (load ! (from ! (stop !)) (look ! 17 refl)) (and-then ! (lit ! gL) (no-more !))) (λ u.
-          use1 W (later (given (Is usize m (u ∷ [])) (‵ ftrue))) (id⊢ 𝓤 _) $ await ! tt $ learn ! (λ gm. drop ! $
-          land ! (from ! (stop !)) (init ! 20 refl (uint-lawful 𝓤 H A W w64 .typed m _ gm .0)) $ rewrite ! 20 (λ (x : Val). ‵ (fat fullShare word l₄ 0 x)) (ap only (gm .0)) refl $
+          calls-told ! (fmOf 𝓤 H (W .laws) 𝓣) (‵ ftrue) (vint w64 n ∷ vint w64 N ∷ []) _ (λ _. ‵ ftrue) least (and-then ! (load ! (from ! (stop !)) (look ! 17 refl)) (and-then ! (lit ! gL) (no-more !))) (λ u c k. drop ! $
+          land ! (from ! (stop !)) (init ! 20 refl (uint-lawful 𝓤 H A W w64 .typed c _ (k .1) .0)) $ rewrite ! 20 (λ (x : Val). ‵ (fat fullShare word l₄ 0 x)) (ap only (k .1 .0) ∙ ap (vint w64) (k .0)) refl $
           assigns ! (of-opd ! (lit ! tt)) (from ! (stop !)) (init ! 18 refl (tt, record { fits = lit< tt })) $ forget ! 24 refl $ forget ! 16 refl $
-          move ! (22 ∷ []) $ use1 W (‵ (row Rt fullShare filled l₃ 0)) (apart T L 𝓤 H A W N pl filled (arrayVal (replicate N v)) l₃ (same T L N d v gd)) $
+          move ! (22 ∷ []) $ use1 W (‵ (row Rt fullShare filled l₃ 0)) (apart T L 𝓤 H A W N pl filled (arrayVal (replicate N v)) l₃ (same T L N d v (is-none v r h))) $
           move ! (31 ∷ []) $ fsplit ! $ move ! (1 ∷ []) $ drop ! $ use1 W (‵ Own ⊛ ‵ Own) (shr-slice-copy 𝓤 H A W (named 0) κ Rt .twice ref (sliceVal (b, o) n ∷ [])) $ split ! $
           fsplit ! $ drop ! $ fsplit ! $ drop ! $ move ! (32 ∷ []) $ split ! $
           -- [the token; true; Bor; Own; the array; _14; …; _13; …; .. without _3; ..]
           keep ! (23 ∷ 25 ∷ 19 ∷ 17 ∷ 15 ∷ 13 ∷ 11 ∷ 9 ∷ 7 ∷ 30 ∷ 4 ∷ 2 ∷ 0 ∷ 32 ∷ 28 ∷ 21 ∷ 5 ∷ 3 ∷ 33 ∷ 31 ∷ 29 ∷ 27 ∷ 26 ∷ 24 ∷ 22 ∷ 20 ∷ 18 ∷ 16 ∷ 14 ∷ 12 ∷ 10 ∷ 8 ∷ 6 ∷ []) $
-          by ! loops))))
+          by ! loops))
+        where
+          is-none : (v : Val) (r : T .D) → Answer 𝓤 H A W Rt (λ x. x ≡ d) v r → Is Rt d (v ∷ [])
+          is-none v r h = subst (λ (x : T .D). Is Rt x (v ∷ [])) (h .0) (h .1)

@@ -4,10 +4,12 @@ ghost use Prim.Native.Nat.{ℕ, _≤_, min};
 ghost use mathlib.Core.List.{_++_};
 ghost use lib.ListN.{length, take, drop};
 ghost use Rattle.lists.specs.Loaded.{noTask, noResource, loadedTasks, loadedResources};
+use plan::Answer;
 use plan::Day;
 use plan::Power;
 use plan::PowerSpan;
 use plan::Resource;
+use plan::Sense;
 use plan::Span;
 use plan::Task;
 
@@ -110,4 +112,39 @@ pub fn store_resources(resources: &mut [Resource], list: [Resource; 16], n: usiz
         resources[i] = list[i];
         i += 1;
     }
+}
+
+// The calls over a caller's lists.
+pub enum Call {
+    Check,
+    Balance,
+    Step(usize),
+    Pass,
+    Settle,
+}
+
+// What the core hands back: its answer, and how many of the list's first places are to be stored.
+pub struct Ran {
+    pub answer: Answer,
+    pub list: [Task; 256],
+    pub stored: usize,
+}
+
+pub fn run(call: Call, sense: Sense, q: Resources, p: Tasks) -> Ran {
+    let l = p.list;
+    Ran {
+        answer: Answer::Done(0),
+        list: l,
+        stored: 0,
+    }
+}
+
+pub fn apply(call: Call, sense: Sense, resources: &[Resource], tasks: &mut [Task]) -> Answer {
+    let q = load_resources(resources);
+    let p = load_tasks(tasks);
+    let r = run(call, sense, q, p);
+    let list = r.list;
+    let stored = r.stored;
+    store_tasks(tasks, list, stored);
+    r.answer
 }

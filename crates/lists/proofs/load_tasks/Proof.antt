@@ -14,7 +14,8 @@ use prog.Wp.{Heap, Tables}
 use ghost.Atoms.{Atoms, sem}
 use contract.Monad.{Fun, fact}
 use contract.Running.{givenOf, tables, tablesOf}
-use types.Kit.{Given, _$_, _∵_, !, qed, join, frame, done}
+use base.Fml.{ftrue}
+use types.Kit.{Given, ‵, _$_, _∵_, !, qed, join, frame, done}
 use denote.Laws.{Is}
 use denote.Array.{Array}
 use denote.Steps.{nothing}
@@ -29,7 +30,7 @@ use Rattle.lists.specs.Loaded.{firsts, noTask, loadedTasks}
 use Rattle.lists.proofs.Tasks as P
 use Rattle.lists.proofs.Tasks.Laws as P′
 use Rattle.lists.proofs.Rows.{as-field}
-use Rattle.lists.proofs.Calls.{Answers, answers}
+use Rattle.lists.proofs.Calls.{Answers, asked}
 use Rattle.lists.proofs.Loading.{loaded}
 use Rattle.lists.proofs.Load.{Fewer, meets}
 use Rattle.lists.proofs.fewer_of.Symbol as fewer-def
@@ -53,10 +54,10 @@ module _ {M : Type 1} (𝓤 : URA M) (H : Heap 𝓤) (A : Atoms 𝓤) (W : Given
   abbrev None : Contract 𝓤
   None = tripleOf 𝓤 H A none.signature (none.spec 𝓤 H A mem run)
 
-  made : (𝓣 : Tables 𝓤 H) → Triple 𝓤 (𝓣 .C #none) None → Answers 𝓤 H A W 𝓣 #none [] T.the-row noTask
+  made : (𝓣 : Tables 𝓤 H) → Triple 𝓤 (𝓣 .C #none) None → Answers 𝓤 H A W 𝓣 #none [] T.the-row (λ r. r ≡ noTask)
   made 𝓣 known =
-      answers 𝓤 H A W 𝓣 #none None known ((tt, tt, tt, tt, tt), tt) T.the-row noTask (emp 𝓤) (ensured 𝓤 H A none.ended (none.clauses 𝓤 H A mem run) tt tt tt)
-      (qed W [] ∵ nothing ! $ nothing ! $ join ! $ frame ! $ done !) (λ v. id⊢ 𝓤 _) (λ r. exE 𝓤 _ (λ ws. snd∗ 𝓤 (sem 𝓤 H A (lasts none.ended tt tt ws)) (fact 𝓤 (r ≡ noTask))))
+      asked 𝓤 H A W T.the-row (λ r. r ≡ noTask) (‵ ftrue) (ensured 𝓤 H A none.ended (none.clauses 𝓤 H A mem run) tt tt tt) (λ r. exE 𝓤 _ (λ ws. snd∗ 𝓤 (sem 𝓤 H A (lasts none.ended tt tt ws)) (fact 𝓤 (r ≡ noTask))))
+      𝓣 #none None known ((tt, tt, tt, tt, tt), tt) (emp 𝓤) (qed W [] ∵ nothing ! $ nothing ! $ join ! $ frame ! $ done !) (λ v. id⊢ 𝓤 _)
 
 pub load-tasks-spec : {M : Type 1} → stated.statement M
 unfolding code.routine tablesOf
