@@ -6,3 +6,4 @@ pub mod Loading
 pub mod Load
 pub mod Storing
 pub mod Store
+pub mod Applying
