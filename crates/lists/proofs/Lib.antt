@@ -1,5 +1,6 @@
 -- The walks by hand over lent lists of records: list laws, arrays of records in memory, calls, and the two loops, each once for any record.
 pub mod Firsts
+pub mod Loaded
 pub mod Rows
 pub mod Calls
 pub mod Loading

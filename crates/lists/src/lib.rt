@@ -3,11 +3,14 @@ ghost use mathlib.Core.Path.{_≡_};
 ghost use Prim.Native.Nat.{ℕ, _≤_, min};
 ghost use mathlib.Core.List.{_++_};
 ghost use lib.ListN.{length, take, drop};
+ghost use Rattle.plan.specs.declared.Answer.the-variants as Answer;
+ghost use Rattle.lists.specs.Calls.{Runs, result, outcome};
 ghost use Rattle.lists.specs.Loaded.{noTask, noResource, loadedTasks, loadedResources};
 use plan::Answer;
 use plan::Day;
 use plan::Power;
 use plan::PowerSpan;
+use plan::Refusal;
 use plan::Resource;
 use plan::Sense;
 use plan::Span;
@@ -130,16 +133,43 @@ pub struct Ran {
     pub stored: usize,
 }
 
-pub fn run(call: Call, sense: Sense, q: Resources, p: Tasks) -> Ran {
-    let l = p.list;
+// The core, on plain values. It stands in for the engine: it answers refusals 1 and 2 only.
+fn run(call: Call, sense: Sense, q: Resources, p: Tasks) -> Ran
+    ensures { λ r. ⌜ Runs call sense q p r ⌝ }
+{
+    let list = p.list;
+    let count = p.count;
+    let resources = q.count;
+    if 256 < count {
+        refused(Refusal::TooManyTasks, list)
+    } else if resources == 0 {
+        refused(Refusal::ResourceCount, list)
+    } else if 16 < resources {
+        refused(Refusal::ResourceCount, list)
+    } else {
+        Ran {
+            answer: Answer::Done(0),
+            list: list,
+            stored: count,
+        }
+    }
+}
+
+// "On each refusal, task lists and buffers keep their entry contents."
+fn refused(refusal: Refusal, list: [Task; 256]) -> Ran
+    ensures { λ r. ⌜ r ≡ record { answer = Answer.Refused refusal; list = list; stored = 0 } ⌝ }
+{
     Ran {
-        answer: Answer::Done(0),
-        list: l,
+        answer: Answer::Refused(refusal),
+        list: list,
         stored: 0,
     }
 }
 
-pub fn apply(call: Call, sense: Sense, resources: &[Resource], tasks: &mut [Task]) -> Answer {
+// A call over a caller's lists: "a step changes it there; a small outer call does this over a core that takes plain values".
+pub fn apply(call: Call, sense: Sense, resources: &[Resource], tasks: &mut [Task]) -> Answer
+    ensures { λ r. ⌜ result r (now (tasks .exit)) ≡ outcome call sense (now (resources .entry)) (now (tasks .entry)) ⌝ }
+{
     let q = load_resources(resources);
     let p = load_tasks(tasks);
     let r = run(call, sense, q, p);
