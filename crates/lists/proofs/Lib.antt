@@ -8,3 +8,4 @@ pub mod Load
 pub mod Storing
 pub mod Store
 pub mod Applying
+pub mod Applied

@@ -178,3 +178,31 @@ pub fn apply(call: Call, sense: Sense, resources: &[Resource], tasks: &mut [Task
     store_tasks(tasks, list, stored);
     r.answer
 }
+
+// "Balance."
+pub fn balance(resources: &[Resource], tasks: &mut [Task]) -> Answer
+    ensures { λ r. ⌜ result r (now (tasks .exit)) ≡ outcome Call.Balance Sense.AtLeast (now (resources .entry)) (now (tasks .entry)) ⌝ }
+{
+    apply(Call::Balance, Sense::AtLeast, resources, tasks)
+}
+
+// "Resource step", on the resource at a place of the list.
+pub fn resource_step(sense: Sense, place: usize, resources: &[Resource], tasks: &mut [Task]) -> Answer
+    ensures { λ r. ⌜ result r (now (tasks .exit)) ≡ outcome (Call.Step place) sense (now (resources .entry)) (now (tasks .entry)) ⌝ }
+{
+    apply(Call::Step(place), sense, resources, tasks)
+}
+
+// "Pass: balance, then the resource step for each resource in list order."
+pub fn pass(sense: Sense, resources: &[Resource], tasks: &mut [Task]) -> Answer
+    ensures { λ r. ⌜ result r (now (tasks .exit)) ≡ outcome Call.Pass sense (now (resources .entry)) (now (tasks .entry)) ⌝ }
+{
+    apply(Call::Pass, sense, resources, tasks)
+}
+
+// "Settling: passes until one changes nothing."
+pub fn settle(sense: Sense, resources: &[Resource], tasks: &mut [Task]) -> Answer
+    ensures { λ r. ⌜ result r (now (tasks .exit)) ≡ outcome Call.Settle sense (now (resources .entry)) (now (tasks .entry)) ⌝ }
+{
+    apply(Call::Settle, sense, resources, tasks)
+}
