@@ -1,6 +1,7 @@
 -- The walks by hand over lent lists of records: list laws, arrays of records in memory, calls, and the two loops, each once for any record.
 pub mod Firsts
 pub mod Loaded
+pub mod Outcomes
 pub mod Rows
 pub mod Calls
 pub mod Loading
@@ -9,3 +10,4 @@ pub mod Storing
 pub mod Store
 pub mod Applying
 pub mod Applied
+pub mod Checking

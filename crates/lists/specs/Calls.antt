@@ -8,6 +8,7 @@ use Rattle.integers.specs.Tests.{or}
 use Rattle.plan.specs.declared.Task.{Task}
 use Rattle.plan.specs.declared.Resource.{Resource}
 use Rattle.plan.specs.declared.Sense.{Sense}
+use Rattle.plan.specs.declared.Sense.the-variants.{AtLeast}
 use Rattle.plan.specs.declared.Answer.{Answer}
 use Rattle.plan.specs.declared.Refusal.the-variants.{TooManyTasks, ResourceCount}
 use Rattle.rules.specs.Calls.{Result, Checked, refuseIf, orElse, unlessRefused, done, mostTasks, mostResources, checkCall, balanceCall, stepCall, passCall, settleCall}
@@ -46,3 +47,7 @@ left r ts = result (r .answer) (take (r .stored) (r .list) ++ drop (r .stored) t
 abbrev pub Runs : Call → Sense → Resources → Tasks → Ran → Type 0
 Runs call sense q p r =
     (qs : List Resource) (ts : List Task) → q ≡ loadedResources qs → p ≡ loadedTasks ts → (r .stored ≤ 256) × (r .stored ≤ length ts) × (left r ts ≡ outcome call sense qs ts)
+
+-- what the checks alone promise of what is loaded: the tasks stay as they are
+abbrev pub Checks : Resources → Tasks → Answer → Type 0
+Checks q p r = (qs : List Resource) (ts : List Task) → q ≡ loadedResources qs → p ≡ loadedTasks ts → result r ts ≡ outcome Check AtLeast qs ts

@@ -4,7 +4,7 @@ ghost use Prim.Native.Nat.{ℕ, _≤_, min};
 ghost use mathlib.Core.List.{_++_};
 ghost use lib.ListN.{length, take, drop};
 ghost use Rattle.plan.specs.declared.Answer.the-variants as Answer;
-ghost use Rattle.lists.specs.Calls.{Runs, result, outcome};
+ghost use Rattle.lists.specs.Calls.{Runs, Checks, result, outcome};
 ghost use Rattle.lists.specs.Loaded.{noTask, noResource, loadedTasks, loadedResources};
 use plan::Answer;
 use plan::Day;
@@ -205,4 +205,21 @@ pub fn settle(sense: Sense, resources: &[Resource], tasks: &mut [Task]) -> Answe
     ensures { λ r. ⌜ result r (now (tasks .exit)) ≡ outcome Call.Settle sense (now (resources .entry)) (now (tasks .entry)) ⌝ }
 {
     apply(Call::Settle, sense, resources, tasks)
+}
+
+// The checks alone, on plain values.
+fn checked(q: Resources, p: Tasks) -> Answer
+    ensures { λ r. ⌜ Checks q p r ⌝ }
+{
+    let r = run(Call::Check, Sense::AtLeast, q, p);
+    r.answer
+}
+
+// "Every public call checks its own input": the checks by themselves.
+pub fn check(resources: &[Resource], tasks: &[Task]) -> Answer
+    ensures { λ r. ⌜ result r (now (tasks .entry)) ≡ outcome Call.Check Sense.AtLeast (now (resources .entry)) (now (tasks .entry)) ⌝ }
+{
+    let q = load_resources(resources);
+    let p = load_tasks(tasks);
+    checked(q, p)
 }
