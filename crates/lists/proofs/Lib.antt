@@ -11,3 +11,4 @@ pub mod Store
 pub mod Applying
 pub mod Applied
 pub mod Checking
+pub mod Passing

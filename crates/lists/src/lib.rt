@@ -54,11 +54,7 @@ fn no_resource() -> Resource
 fn fewer_of(a: usize, b: usize) -> usize
     ensures { λ r. ⌜ r ≡ min a b ⌝ }
 {
-    if a < b {
-        a
-    } else {
-        b
-    }
+    if a < b { a } else { b }
 }
 
 pub fn load_tasks(tasks: &[Task]) -> Tasks
@@ -187,7 +183,12 @@ pub fn balance(resources: &[Resource], tasks: &mut [Task]) -> Answer
 }
 
 // "Resource step", on the resource at a place of the list.
-pub fn resource_step(sense: Sense, place: usize, resources: &[Resource], tasks: &mut [Task]) -> Answer
+pub fn resource_step(
+    sense: Sense,
+    place: usize,
+    resources: &[Resource],
+    tasks: &mut [Task],
+) -> Answer
     ensures { λ r. ⌜ result r (now (tasks .exit)) ≡ outcome (Call.Step place) sense (now (resources .entry)) (now (tasks .entry)) ⌝ }
 {
     apply(Call::Step(place), sense, resources, tasks)
