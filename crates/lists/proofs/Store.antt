@@ -23,7 +23,7 @@ use denote.Plain.{uint-vals, uint-tells, uint-makes}
 use denote.Builtin.{usize, unit, SliceRefMutOf, ArrayOf}
 use denote.Array.{Array, array-vals, array-tells, array-makes}
 use denote.Memory.{mem}
-use denote.Ref.{RefT, now, at-last}
+use denote.Ref.{RefT, now}
 use denote.Slice.{sliceVal, MutSlice, heres, Room, finally, slice-vals, mut-slice-tells, at-slice, codedHoleys}
 use denote.Lend.{Held}
 use denote.Signature.{Signature, plain}

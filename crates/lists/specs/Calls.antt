@@ -1,7 +1,7 @@
 -- What a call over lent lists answers, and what it leaves in the lent tasks.
 use mathlib.Core.Path.{_≡_}
 use mathlib.Core.List.{List, _++_}
-use Prim.Native.Nat.{ℕ, _≤_}
+use Prim.Native.Nat.{_≤_}
 use lib.Dec.{eqb, ltb}
 use lib.ListN.{length, take, drop}
 use Rattle.integers.specs.Tests.{or}

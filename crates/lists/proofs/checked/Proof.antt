@@ -1,5 +1,5 @@
 -- `checked`: of what the core hands back for the checks only the answer counts, since they leave the tasks as they are.
-use mathlib.Core.Path.{_≡_, sym, ap, _∙_}
+use mathlib.Core.Path.{sym, ap, _∙_}
 use mathlib.Core.List.{List}
 use borrow.Author.Needs.{needs}
 use Rattle.plan.specs.declared.Answer.{Answer}
