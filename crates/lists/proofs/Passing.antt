@@ -64,10 +64,10 @@ function tag = record {
   locals = local An′.mir valueLocal ∷ local S′.mir valueLocal ∷ local (sliceTy (tyRef (named 0) imm (pointee (Q.the-row .written)))) valueLocal ∷ local (sliceTy (tyRef (named 1) mut (pointee (T.the-row .written)))) valueLocal
       ∷ local C′.mir valueLocal ∷ local mref valueLocal ∷ local (sliceTy mref) valueLocal ∷ [];
   body =
-    seq (assign (place 4 []) (aggregate (int w8 tag ∷ [])))
-    (seq (assign (place 5 []) (addrOf (place 3 (field 0 ∷ deref T′.mir ∷ []))))
-    (seq (assign (place 6 []) (aggregate (copy (place 5 []) ∷ copy (place 3 (field 1 ∷ [])) ∷ [])))
-    (seq (call #apply (copy (place 4 []) ∷ copy (place 1 []) ∷ copy (place 2 []) ∷ copy (place 6 []) ∷ []) (place 0 [])) return)));
+      seq (assign (place 4 []) (aggregate (int w8 tag ∷ [])))
+      (seq (assign (place 5 []) (addrOf (place 3 (field 0 ∷ deref T′.mir ∷ []))))
+      (seq (assign (place 6 []) (aggregate (copy (place 5 []) ∷ copy (place 3 (field 1 ∷ [])) ∷ [])))
+      (seq (call #apply (copy (place 4 []) ∷ copy (place 1 []) ∷ copy (place 2 []) ∷ copy (place 6 []) ∷ []) (place 0 [])) return)));
 }
 
 abbrev pub tagged : ℕ → Val
