@@ -12,3 +12,4 @@ pub mod Applying
 pub mod Applied
 pub mod Checking
 pub mod Passing
+pub mod Writing
