@@ -13,3 +13,4 @@ pub mod Applied
 pub mod Checking
 pub mod Passing
 pub mod Writing
+pub mod Reading
