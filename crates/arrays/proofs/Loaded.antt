@@ -1,16 +1,14 @@
 -- Lists of which only the first places are loaded, and what is stored of them.
 use mathlib.Core.Path.{_≡_, refl, sym, ap, _∙_}
-use mathlib.Core.List.{List, [], _∷_, _++_, append-nil}
-use Prim.Native.Nat.{ℕ, zero, suc, _+_, _-_, _≤_, min}
+use mathlib.Core.List.{List, _++_, append-nil}
+use Prim.Native.Nat.{ℕ, _-_, _≤_, min}
 use native.Mathlib.Omega.{arith}
 use lib.ListN.{length, take, drop, replicate, length-append, length-replicate, drop-of-length-le}
 use lib.Seq.{take-append-seam, take-at, take-take}
 use Rattle.plan.specs.declared.Task.{Task}
 use Rattle.plan.specs.declared.Resource.{Resource}
 use Rattle.plan.specs.declared.Sense.{Sense}
-use Rattle.plan.specs.declared.Refusal.{Refusal}
-use Rattle.plan.specs.declared.Answer.{Answer}
-use Rattle.rules.specs.Calls.{Checked, check, mostResources, mostTasks, Result, done, refused}
+use Rattle.rules.specs.Calls.{Checked, check, mostResources, mostTasks, Result, done}
 use Rattle.rules.specs.Calls.Checked.{Accepted, Refuse}
 use Rattle.rows.specs.View.{noTask, noResource}
 use Rattle.rows.proofs.Fits.{accepts}

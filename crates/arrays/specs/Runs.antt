@@ -11,7 +11,7 @@ use Rattle.engine.specs.declared.Call.{Call}
 use Rattle.engine.specs.Calls.{callOf}
 use Rattle.arrays.specs.declared.Ran.{Ran}
 
--- an array holds a list of so many, where they are not more than most; of a longer list nothing is asked: it is refused by its length
+-- an array of most places holds a list in its first ones; of a longer list nothing is asked, since its length alone refuses it
 abbrev pub Holds : {A : Type 0} → ℕ → List A → List A → Type 0
 Holds most array xs = length xs ≤ most → take (length xs) array ≡ xs
 

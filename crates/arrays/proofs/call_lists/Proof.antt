@@ -1,7 +1,7 @@
 -- The checks by the counts and the rows, then the place, then the work on rows that are the whole lists.
 use native.Mathlib.Omega.{arith}
-use mathlib.Core.Path.{_≡_, refl, sym, ap, _∙_, subst}
-use mathlib.Core.Bool.{Bool, true, false}
+use mathlib.Core.Path.{_≡_, sym, ap, _∙_, subst}
+use mathlib.Core.Bool.{Bool, true}
 use mathlib.Core.List.{List}
 use Prim.Native.Nat.{ℕ, _≤_, min}
 use lib.ListN.{length}
@@ -14,8 +14,7 @@ use Rattle.rows.proofs.View.{length-tasks, length-resources}
 use Rattle.rows.proofs.Fits.{accepts}
 use Rattle.entry.specs.declared.Entry.{Entry}
 use Rattle.entry.specs.Checks.{checkedOf}
-use Rattle.engine.specs.Answers.{resultOf}
-use Rattle.engine.specs.Calls.{callOf, placedIn}
+use Rattle.engine.specs.Calls.{placedIn}
 use Rattle.engine.proofs.Calls.{call-refused, call-unplaced}
 use Rattle.arrays.proofs.Loaded.{filled, filled-length, filled-whole, Whole, accepted-whole}
 use borrow.Author.Needs.{needs}

@@ -1,7 +1,6 @@
 -- As many rows of our own are lent as are loaded.
 use native.Mathlib.Omega.{arith}
-use mathlib.Core.Path.{_≡_, sym, _∙_}
-use lib.ListN.{length, take}
+use mathlib.Core.Path.{sym, _∙_}
 use lib.Seq.{length-take-le}
 use borrow.Author.Needs.{needs}
 use Rattle.arrays.proofs.run_arrays.Statement.{statement}

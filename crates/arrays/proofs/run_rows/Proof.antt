@@ -1,15 +1,15 @@
 -- What the arrays hold is packed, called on, and unpacked where the call is done.
 use native.Mathlib.Omega.{arith}
-use mathlib.Core.Path.{_≡_, refl, sym, ap, _∙_}
+use mathlib.Core.Path.{_≡_, sym, ap, _∙_}
 use mathlib.Core.List.{List, _++_}
-use Prim.Native.Nat.{ℕ, _≤_, min}
+use Prim.Native.Nat.{_≤_}
 use lib.IntN.{ℤ}
 use lib.ListN.{length, take, drop}
 use Rattle.plan.specs.declared.Resource.{Resource}
 use Rattle.plan.specs.declared.Task.{Task}
 use Rattle.plan.specs.declared.Answer.{Answer}
 use Rattle.rules.specs.Calls.{mostResources, mostTasks, done}
-use Rattle.rows.specs.View.{tasksOf, resourcesOf}
+use Rattle.rows.specs.View.{tasksOf}
 use Rattle.rows.proofs.View.{length-tasks}
 use Rattle.engine.specs.Answers.{resultOf}
 use Rattle.engine.specs.Calls.{callOf}
