@@ -31,17 +31,18 @@ use Rattle.plan.proofs.Resource as Q
 use Rattle.plan.proofs.Sense as S
 use Rattle.plan.proofs.Sense.Laws as S′
 use Rattle.plan.proofs.Task as T
-use Rattle.lists.specs.declared.Call.{Call}
-use Rattle.lists.specs.Calls.{result, outcome}
-use Rattle.lists.proofs.Call as C
-use Rattle.lists.proofs.Call.Laws as C′
+use Rattle.engine.specs.declared.Call.{Call}
+use Rattle.engine.specs.Calls.{callOf}
+use Rattle.lists.specs.Calls.{result}
+use Rattle.engine.proofs.Call as C
+use Rattle.engine.proofs.Call.Laws as C′
 use Rattle.lists.proofs.Calls.{Gives}
 use Rattle.lists.proofs.apply as apply
 use Rattle.lists.proofs.apply.Symbol.{name as #apply}
 
 -- the answer a, and the last tasks zs, are those of the call
 abbrev pub Applied : Call → Sense → List Resource → List Task → Val → Answer × List Task → Type 0
-Applied c e qs ts v x = (result (x .0) (x .1) ≡ outcome c e qs ts) × (length (x .1) ≡ length ts) × Is An.the-row (x .0) (v ∷ [])
+Applied c e qs ts v x = (result (x .0) (x .1) ≡ callOf c e qs ts) × (length (x .1) ≡ length ts) × Is An.the-row (x .0) (v ∷ [])
 
 module _ {M : Type 1} (𝓤 : URA M) (H : Heap 𝓤) (A : Atoms 𝓤) (W : Given 𝓤 H A) (mem : Memory → SProp 𝓤) (run : Routine → Fun 𝓤) where
   abbrev pub Apply : Contract 𝓤
@@ -88,8 +89,8 @@ module _ {M : Type 1} (𝓤 : URA M) (H : Heap 𝓤) (A : Atoms 𝓤) (W : Given
         gives : (v : Val) → ent 𝓤 (Apply .post y v) (Gives 𝓤 H A W (Applied c e qs ts) Has v)
         gives v =
             qed W (later (some (λ (r : Answer). ((‵ (flft κ₀ q₀) ⊛ (‵ (flft κ₁ q₁) ⊛ ‵ ftrue)) ⊛ ‵ (An.the-row .own r (v ∷ [])))
-            ⊛ some (λ (zs : Unit {0} × (Unit {0} × (Unit {0} × (List Task × Unit {0})))). ‵ (lasts apply.ended (κ₀, (κ₁, tt)) (c, (e, (refQ, (refT, tt)))) zs) ⊛ raw (fact 𝓤 (result r (zs .1 .1 .1 .0) ≡ outcome c e qs ts))))) ∷ []) ∵
-            updating ! $ await ! tt $ pick ! (λ r. split ! $ move ! (1 ∷ []) $ pick ! (λ zs. split ! $ move ! (1 ∷ []) $ heard ! (result r (zs .1 .1 .1 .0) ≡ outcome c e qs ts) (λ f.
+            ⊛ some (λ (zs : Unit {0} × (Unit {0} × (Unit {0} × (List Task × Unit {0})))). ‵ (lasts apply.ended (κ₀, (κ₁, tt)) (c, (e, (refQ, (refT, tt)))) zs) ⊛ raw (fact 𝓤 (result r (zs .1 .1 .1 .0) ≡ callOf c e qs ts))))) ∷ []) ∵
+            updating ! $ await ! tt $ pick ! (λ r. split ! $ move ! (1 ∷ []) $ pick ! (λ zs. split ! $ move ! (1 ∷ []) $ heard ! (result r (zs .1 .1 .1 .0) ≡ callOf c e qs ts) (λ f.
             fsplit ! $ drop ! $ fsplit ! $ drop ! $ fsplit ! $ drop ! $ fsplit ! $ fsplit ! $ move ! (1 ∷ []) $ feqL ! (λ l. move ! (2 ∷ []) $ split ! $ move ! (1 ∷ []) $ facts ! An.the-row (Is An.the-row) (shows 𝓤 H A An.the-row) r (v ∷ []) (λ is.
             split ! $ move ! (1 ∷ []) $ split ! $
             -- [κ₁'s token; true; κ₀'s token; the last tasks; true]

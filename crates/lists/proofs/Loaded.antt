@@ -6,6 +6,8 @@ use native.Mathlib.Nat.{not-suc-le-zero, le-of-suc-le-suc}
 use lib.ListN.{length, take, replicate}
 use Rattle.plan.specs.declared.Task.{Task}
 use Rattle.plan.specs.declared.Resource.{Resource}
+use Rattle.rules.specs.Calls.{mostTasks, mostResources}
+use Rattle.arrays.specs.Runs.{Holds}
 use Rattle.lists.specs.declared.Tasks.{Tasks}
 use Rattle.lists.specs.declared.Resources.{Resources}
 use Rattle.lists.specs.Loaded.{firsts, noTask, noResource, loadedTasks, loadedResources}
@@ -23,14 +25,14 @@ pub tasks-count : (p : Tasks) (ts : List Task) → p ≡ loadedTasks ts → p .c
 unfolding loadedTasks
 tasks-count p ts e = ap (λ (x : Tasks). x .count) e
 
-pub tasks-back : (p : Tasks) (ts : List Task) → p ≡ loadedTasks ts → length ts ≤ 256 → take (p .count) (p .list) ≡ ts
+pub tasks-held : (p : Tasks) (ts : List Task) → p ≡ loadedTasks ts → Holds mostTasks (p .list) ts
 unfolding loadedTasks
-tasks-back p ts e h = ap (λ (x : Tasks). take (x .count) (x .list)) e ∙ firsts-back 256 noTask ts h
+tasks-held p ts e h = ap (λ (x : Tasks). take (length ts) (x .list)) e ∙ firsts-back 256 noTask ts h
 
 pub resources-count : (q : Resources) (qs : List Resource) → q ≡ loadedResources qs → q .count ≡ length qs
 unfolding loadedResources
 resources-count q qs e = ap (λ (x : Resources). x .count) e
 
-pub resources-back : (q : Resources) (qs : List Resource) → q ≡ loadedResources qs → length qs ≤ 16 → take (q .count) (q .list) ≡ qs
+pub resources-held : (q : Resources) (qs : List Resource) → q ≡ loadedResources qs → Holds mostResources (q .list) qs
 unfolding loadedResources
-resources-back q qs e h = ap (λ (x : Resources). take (x .count) (x .list)) e ∙ firsts-back 16 noResource qs h
+resources-held q qs e h = ap (λ (x : Resources). take (length qs) (x .list)) e ∙ firsts-back 16 noResource qs h

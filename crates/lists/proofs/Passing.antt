@@ -44,10 +44,11 @@ use Rattle.plan.proofs.Sense as S
 use Rattle.plan.proofs.Sense.Laws as S′
 use Rattle.plan.proofs.Task as T
 use Rattle.plan.proofs.Task.Laws as T′
-use Rattle.lists.specs.declared.Call.{Call}
-use Rattle.lists.specs.Calls.{result, outcome}
-use Rattle.lists.proofs.Call as C
-use Rattle.lists.proofs.Call.Laws as C′
+use Rattle.engine.specs.declared.Call.{Call}
+use Rattle.engine.specs.Calls.{callOf}
+use Rattle.lists.specs.Calls.{result}
+use Rattle.engine.proofs.Call as C
+use Rattle.engine.proofs.Call.Laws as C′
 use Rattle.lists.proofs.Calls.{calls-told}
 use Rattle.lists.proofs.Applied.{Apply, Applied, Lends, Has, applies, hands-back}
 use Rattle.lists.proofs.apply.Symbol.{name as #apply}
@@ -89,7 +90,7 @@ stayed = (stay-none (λ _. S.the-row) yes, (stay-none-slice (0 ∷ []) tt (plain
 
 module _ (c : Call) (tag : ℕ) (gt : Holds (ltb tag (2 ^ 8))) (gc : Is C.the-row c (tagged tag ∷ [])) where
   abbrev clauses : {M : Type 1} (𝓤 : URA M) → Clauses 𝓤 ended
-  clauses 𝓤 = λ κs a. record { ghost = Unit {0}; requires = λ g. emp 𝓤; ensures = λ g r e. fact 𝓤 (result r (now (e .1 .1 .0)) ≡ outcome c (a .0) (now (a .1 .0)) (now (a .1 .1 .0))) }
+  clauses 𝓤 = λ κs a. record { ghost = Unit {0}; requires = λ g. emp 𝓤; ensures = λ g r e. fact 𝓤 (result r (now (e .1 .1 .0)) ≡ callOf c (a .0) (now (a .1 .0)) (now (a .1 .1 .0))) }
 
   module _ {M : Type 1} (𝓤 : URA M) (H : Heap 𝓤) (A : Atoms 𝓤) (W : Given 𝓤 H A) (mem : Memory → SProp 𝓤) (run : Routine → Fun 𝓤) (𝓣 : Tables 𝓤 H) (known : Triple 𝓤 (𝓣 .C #apply) (Apply 𝓤 H A W mem run)) where
     module _ (κ₀ κ₁ : Lft) (q₀ q₁ : Share) (b₀ o₀ : ℕ) (γ₀ : GName) (qs : List Resource) (b o : ℕ) (γ : GName) (ts : List Task) (e : Sense) (g₀ : Room Q.the-row (length qs)) (gn : Room T.the-row (length ts)) (ge : Is S.the-row e (EL.vals S.the-type S′.the-laws e)) where

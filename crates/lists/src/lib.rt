@@ -3,14 +3,15 @@ ghost use mathlib.Core.Path.{_≡_};
 ghost use Prim.Native.Nat.{ℕ, _≤_, min};
 ghost use mathlib.Core.List.{_++_};
 ghost use lib.ListN.{length, take, drop};
-ghost use Rattle.plan.specs.declared.Answer.the-variants as Answer;
-ghost use Rattle.lists.specs.Calls.{Runs, Checks, result, outcome};
+ghost use Rattle.engine.specs.Calls.{callOf};
+ghost use Rattle.lists.specs.Calls.{Runs, Checks, result};
 ghost use Rattle.lists.specs.Loaded.{noTask, noResource, loadedTasks, loadedResources};
+use arrays::Ran;
+use engine::Call;
 use plan::Answer;
 use plan::Day;
 use plan::Power;
 use plan::PowerSpan;
-use plan::Refusal;
 use plan::Resource;
 use plan::Sense;
 use plan::Span;
@@ -113,58 +114,18 @@ pub fn store_resources(resources: &mut [Resource], list: [Resource; 16], n: usiz
     }
 }
 
-// The calls over a caller's lists.
-pub enum Call {
-    Check,
-    Balance,
-    Step(usize),
-    Pass,
-    Settle,
-}
-
-// What the core hands back: its answer, and how many of the list's first places are to be stored.
-pub struct Ran {
-    pub answer: Answer,
-    pub list: [Task; 256],
-    pub stored: usize,
-}
-
-// The core, on plain values. It stands in for the engine: it answers refusals 1 and 2 only.
+// The core, on plain values.
 fn run(call: Call, sense: Sense, q: Resources, p: Tasks) -> Ran
     ensures { λ r. ⌜ Runs call sense q p r ⌝ }
 {
-    let list = p.list;
-    let count = p.count;
-    let resources = q.count;
-    if 256 < count {
-        refused(Refusal::TooManyTasks, list)
-    } else if resources == 0 {
-        refused(Refusal::ResourceCount, list)
-    } else if 16 < resources {
-        refused(Refusal::ResourceCount, list)
-    } else {
-        Ran {
-            answer: Answer::Done(0),
-            list: list,
-            stored: count,
-        }
-    }
-}
-
-// "On each refusal, task lists and buffers keep their entry contents."
-fn refused(refusal: Refusal, list: [Task; 256]) -> Ran
-    ensures { λ r. ⌜ r ≡ record { answer = Answer.Refused refusal; list = list; stored = 0 } ⌝ }
-{
-    Ran {
-        answer: Answer::Refused(refusal),
-        list: list,
-        stored: 0,
-    }
+    let resources = q.list;
+    let tasks = p.list;
+    arrays::run_arrays(call, sense, resources, q.count, tasks, p.count)
 }
 
 // A call over a caller's lists: "a step changes it there; a small outer call does this over a core that takes plain values".
 pub fn apply(call: Call, sense: Sense, resources: &[Resource], tasks: &mut [Task]) -> Answer
-    ensures { λ r. ⌜ result r (now (tasks .exit)) ≡ outcome call sense (now (resources .entry)) (now (tasks .entry)) ⌝ }
+    ensures { λ r. ⌜ result r (now (tasks .exit)) ≡ callOf call sense (now (resources .entry)) (now (tasks .entry)) ⌝ }
 {
     let q = load_resources(resources);
     let p = load_tasks(tasks);
@@ -177,7 +138,7 @@ pub fn apply(call: Call, sense: Sense, resources: &[Resource], tasks: &mut [Task
 
 // "Balance."
 pub fn balance(resources: &[Resource], tasks: &mut [Task]) -> Answer
-    ensures { λ r. ⌜ result r (now (tasks .exit)) ≡ outcome Call.Balance Sense.AtLeast (now (resources .entry)) (now (tasks .entry)) ⌝ }
+    ensures { λ r. ⌜ result r (now (tasks .exit)) ≡ callOf Call.Balance Sense.AtLeast (now (resources .entry)) (now (tasks .entry)) ⌝ }
 {
     apply(Call::Balance, Sense::AtLeast, resources, tasks)
 }
@@ -189,21 +150,21 @@ pub fn resource_step(
     resources: &[Resource],
     tasks: &mut [Task],
 ) -> Answer
-    ensures { λ r. ⌜ result r (now (tasks .exit)) ≡ outcome (Call.Step place) sense (now (resources .entry)) (now (tasks .entry)) ⌝ }
+    ensures { λ r. ⌜ result r (now (tasks .exit)) ≡ callOf (Call.Step place) sense (now (resources .entry)) (now (tasks .entry)) ⌝ }
 {
     apply(Call::Step(place), sense, resources, tasks)
 }
 
 // "Pass: balance, then the resource step for each resource in list order."
 pub fn pass(sense: Sense, resources: &[Resource], tasks: &mut [Task]) -> Answer
-    ensures { λ r. ⌜ result r (now (tasks .exit)) ≡ outcome Call.Pass sense (now (resources .entry)) (now (tasks .entry)) ⌝ }
+    ensures { λ r. ⌜ result r (now (tasks .exit)) ≡ callOf Call.Pass sense (now (resources .entry)) (now (tasks .entry)) ⌝ }
 {
     apply(Call::Pass, sense, resources, tasks)
 }
 
 // "Settling: passes until one changes nothing."
 pub fn settle(sense: Sense, resources: &[Resource], tasks: &mut [Task]) -> Answer
-    ensures { λ r. ⌜ result r (now (tasks .exit)) ≡ outcome Call.Settle sense (now (resources .entry)) (now (tasks .entry)) ⌝ }
+    ensures { λ r. ⌜ result r (now (tasks .exit)) ≡ callOf Call.Settle sense (now (resources .entry)) (now (tasks .entry)) ⌝ }
 {
     apply(Call::Settle, sense, resources, tasks)
 }
@@ -218,7 +179,7 @@ fn checked(q: Resources, p: Tasks) -> Answer
 
 // "Every public call checks its own input": the checks by themselves.
 pub fn check(resources: &[Resource], tasks: &[Task]) -> Answer
-    ensures { λ r. ⌜ result r (now (tasks .entry)) ≡ outcome Call.Check Sense.AtLeast (now (resources .entry)) (now (tasks .entry)) ⌝ }
+    ensures { λ r. ⌜ result r (now (tasks .entry)) ≡ callOf Call.Check Sense.AtLeast (now (resources .entry)) (now (tasks .entry)) ⌝ }
 {
     let q = load_resources(resources);
     let p = load_tasks(tasks);

@@ -42,18 +42,18 @@ use Rattle.plan.proofs.Sense as S
 use Rattle.plan.proofs.Sense.Laws as S′
 use Rattle.plan.proofs.Answer as A″
 use Rattle.plan.proofs.Answer.Laws as A′
-use Rattle.lists.specs.declared.Call.{Call}
-use Rattle.lists.specs.declared.Ran.{Ran}
+use Rattle.engine.specs.declared.Call.{Call}
+use Rattle.arrays.specs.declared.Ran.{Ran}
 use Rattle.lists.specs.Loaded.{noTask, loadedTasks, loadedResources, noResource}
 use Rattle.lists.specs.Calls.{Runs, result}
-use Rattle.lists.proofs.Call as C″
-use Rattle.lists.proofs.Call.Laws as C′
+use Rattle.engine.proofs.Call as C″
+use Rattle.engine.proofs.Call.Laws as C′
 use Rattle.lists.proofs.Tasks as Ts
 use Rattle.lists.proofs.Tasks.Laws as Ts′
 use Rattle.lists.proofs.Resources as Qs
 use Rattle.lists.proofs.Resources.Laws as Qs′
-use Rattle.lists.proofs.Ran as Rn
-use Rattle.lists.proofs.Ran.Laws as Rn′
+use Rattle.arrays.proofs.Ran as Rn
+use Rattle.arrays.proofs.Ran.Laws as Rn′
 use Rattle.lists.proofs.Rows.{typed, as-records}
 use Rattle.lists.proofs.Calls.{Answers, asked}
 use Rattle.lists.proofs.Load.{loads}

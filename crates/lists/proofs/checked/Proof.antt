@@ -3,11 +3,9 @@ use mathlib.Core.Path.{sym, ap, _∙_}
 use mathlib.Core.List.{List}
 use borrow.Author.Needs.{needs}
 use Rattle.plan.specs.declared.Answer.{Answer}
-use Rattle.plan.specs.declared.Sense.the-variants.{AtLeast}
 use Rattle.plan.specs.declared.Task.{Task}
-use Rattle.rules.specs.Calls.{Result}
-use Rattle.lists.specs.declared.Call.the-variants.{Check}
-use Rattle.lists.specs.Calls.{result, outcome}
+use Rattle.rules.specs.Calls.{Result, checkCall}
+use Rattle.lists.specs.Calls.{result}
 use Rattle.lists.proofs.Outcomes.{check-keeps}
 use Rattle.lists.proofs.checked.Statement.{statement}
 use Rattle.lists.proofs.checked.Tie as tie
@@ -18,7 +16,7 @@ run-requires c κs = search needs
 returns : tie.Need-returns
 returns c qs ts eq ep =
     let told = c .run .ensures qs ts eq ep .2 in
-    ap (λ (a : Answer). result a ts) (ap (λ (x : Result). x .answer) told) ∙ ap (λ (us : List Task). result (outcome Check AtLeast qs ts .answer) us) (sym (check-keeps AtLeast qs ts))
+    ap (λ (a : Answer). result a ts) (ap (λ (x : Result). x .answer) told) ∙ ap (λ (us : List Task). result (checkCall qs ts .answer) us) (sym (check-keeps qs ts))
 
 pub checked-spec : {M : Type 1} → statement M
 checked-spec = tie.close (tie.spec run-requires returns)

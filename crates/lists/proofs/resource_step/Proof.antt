@@ -43,9 +43,9 @@ use Rattle.plan.proofs.Resource as Q
 use Rattle.plan.proofs.Sense as S
 use Rattle.plan.proofs.Sense.Laws as S′
 use Rattle.plan.proofs.Task as T
-use Rattle.lists.specs.declared.Call.the-variants.{Step}
-use Rattle.lists.proofs.Call as C
-use Rattle.lists.proofs.Call.Laws as C′
+use Rattle.engine.specs.declared.Call.the-variants.{Step}
+use Rattle.engine.proofs.Call as C
+use Rattle.engine.proofs.Call.Laws as C′
 use Rattle.lists.proofs.Calls.{calls-told}
 use Rattle.lists.proofs.Applied.{Apply, Applied, Lends, Has, applies, hands-back}
 use Rattle.lists.proofs.apply.Symbol as apply-def

@@ -3,9 +3,9 @@ use contract.Running.{givenOf, tables, tablesOf}
 use denote.Enum.Laws as EL
 use denote.Triple.Spec.{tripleOf}
 use denote.Triple.Table.{entered, cited}
-use Rattle.lists.specs.declared.Call.the-variants.{Settle}
-use Rattle.lists.proofs.Call as C
-use Rattle.lists.proofs.Call.Laws as C′
+use Rattle.engine.specs.declared.Call.the-variants.{Settle}
+use Rattle.engine.proofs.Call as C
+use Rattle.engine.proofs.Call.Laws as C′
 use Rattle.lists.proofs.Applied.{Apply}
 use Rattle.lists.proofs.Passing.{meets}
 use Rattle.lists.proofs.apply.Symbol as apply-def
