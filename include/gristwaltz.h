@@ -1,15 +1,16 @@
 /* Gristwaltz: narrow a service plan until nothing more follows, or say that no plan exists. Link libgristwaltz.a (`rt staticlib gristwaltz`).
  *
  * A plan is a plan file in memory (at most 9,382 bytes). Every call takes any bytes, keeps no state, uses no heap and may run on any number
- * of threads at once. `file` and `out` must not overlap.
+ * of threads at once. `file` and `out` point to as many bytes as their lengths say, are not NULL, and do not overlap.
  *
  * Every call answers one number: the refusal number times 2^32 plus the place, or, where the refusal number is 0, the pass count (0 for
  * a call that makes no pass). On success exactly as many bytes as `file` has are written to the front of `out`; on a refusal the whole of
  * `out` is as it was.
  *
- * Refusals, in the order in which they are looked for: 8 and 9 (damaged file), 1 (over 256 tasks), 2 (no resource, or over 16), 3 (an
- * identifier repeats), 4 (a limit outside its ends), 5 (a task's range), 6 (a task's set), 12 (no such resource), 10 (`out` shorter than
- * the file), 7 (no plan). The place is a byte of the file for 8 and 9, a resource for 3 and 4, a task for 5 and 6, else 0. */
+ * Refusals, in the order in which they are looked for: 8 and 9 of the first record, 1 (over 256 tasks), 2 (no resource, or over 16), 8 and
+ * 9 of the other records and of what is left over, 3 (an identifier repeats), 4 (a limit outside its ends), then for each task in turn 5
+ * (a range) and 6 (its set), then 12 (no such resource), 10 (`out` shorter than the file), 7 (no plan). The place is a byte of the file for
+ * 8 and 9, a resource for 3 and 4, a task for 5 and 6, else 0. */
 #ifndef GRISTWALTZ_H
 #define GRISTWALTZ_H
 
@@ -32,10 +33,10 @@ uint64_t gristwaltz_balance(const uint8_t *file, size_t file_len, uint8_t *out, 
 /* One resource step of the resource at `place` (counted from 0), written to `out`: 0, or the refusal. */
 uint64_t gristwaltz_resource_step(const uint8_t *file, size_t file_len, size_t place, uint8_t *out, size_t out_len);
 
-/* An answer taken apart: the refusal number (0: done), the place of a refusal, the passes of a settled plan. */
+/* An answer taken apart: the refusal number (0: done), the place of a refusal (else 0), the passes of a settled plan (0 on a refusal). */
 static inline uint32_t gristwaltz_refusal(uint64_t answer) { return (uint32_t)(answer >> 32); }
-static inline uint32_t gristwaltz_place(uint64_t answer) { return (uint32_t)answer; }
-static inline uint32_t gristwaltz_passes(uint64_t answer) { return (uint32_t)answer; }
+static inline uint32_t gristwaltz_place(uint64_t answer) { return gristwaltz_refusal(answer) ? (uint32_t)answer : 0; }
+static inline uint32_t gristwaltz_passes(uint64_t answer) { return gristwaltz_refusal(answer) ? 0 : (uint32_t)answer; }
 
 #ifdef __cplusplus
 }

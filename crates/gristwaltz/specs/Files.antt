@@ -1,5 +1,5 @@
--- A call on a plan file in memory: one number, and what the lent output holds then. Refusals come in the order of reading (8, 9, 1, 2,
--- then 3 to 6), then 12 for a place, then 10 for an output shorter than the file, then 7.
+-- A call on a plan file in memory: one number, and what the lent output holds then. Refusals come in the order of reading (`readPlan`: 8
+-- and 9 as each record is due, 1 and 2 after the first, then 3 to 6), then 12 for a place, 10 for an output shorter than the file, then 7.
 use mathlib.Core.Bool.{not}
 use mathlib.Core.List.{List}
 use Prim.Native.Nat.{ℕ, _+_, _*_, _%_}
