@@ -1,0 +1,2 @@
+-- Laws of the report.
+pub mod Told

@@ -1,0 +1,2 @@
+-- What is printed for a plan file.
+pub mod Report

@@ -1,0 +1,2 @@
+-- The planning program's text.
+pub mod Text
