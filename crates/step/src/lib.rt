@@ -54,7 +54,7 @@ pub fn step(
     ss: &mut [[i64; 4]],
 ) -> Stepped
     requires { ⌜ Asks r limit (tasksOf (now s)) ⌝ }
-    requires { ⌜ Roomy (length (now keys)) (length (now spare)) (length (now ss)) ⌝ }
+    requires { ⌜ Roomy (length (now s)) (length (now keys)) (length (now spare)) (length (now ss)) ⌝ }
     ensures outcome { λ o. ⌜ outcomeOf (o .ok) (tasksOf (now (s .exit))) ≡ atLeastStep r (λ i. limit .0) (tasksOf (now (s .entry))) ⌝ }
     ensures touched { λ o. ⌜ (o .ok ≡ true → o .touched ≡ touchedBy (tasksOf (now (s .entry))) (tasksOf (now (s .exit)))) ⌝ }
 {
