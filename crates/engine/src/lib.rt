@@ -76,7 +76,7 @@ fn step_due(
 ) -> Passed
     requires { ⌜ (r < length (now q)) × (p .ok ≡ true) × (check (resourcesFacing sense (resourcesOf (now q))) (tasksOf (now s)) ≡ Accepted) ⌝ }
     requires { ⌜ Idle (p .mask) (resourcesFacing sense (resourcesOf (now q))) (tasksOf (now s)) ⌝ }
-    requires { ⌜ Roomy (length (now keys)) (length (now spare)) (length (now ss)) ⌝ }
+    requires { ⌜ Roomy (length (now s)) (length (now keys)) (length (now spare)) (length (now ss)) ⌝ }
     ensures outcome { λ o. ⌜ outcomeOf (o .ok) (tasksOf (now (s .exit))) ≡ atLeastStep r (limitOn (getD (resourcesFacing sense (resourcesOf (now (q .entry)))) r noResource)) (tasksOf (now (s .entry))) ⌝ }
     ensures noted { λ o. ⌜ (o .ok ≡ true → Noted (resourcesFacing sense (resourcesOf (now (q .entry)))) (tasksOf (now (s .entry))) (tasksOf (now (s .exit))) (p .changed) (o .changed) (o .mask)) ⌝ }
 {
@@ -106,7 +106,7 @@ fn steps_rows(
 ) -> Passed
     requires { ⌜ (first .ok ≡ true) × (check (resourcesFacing sense (resourcesOf (now q))) (tasksOf (now s)) ≡ Accepted) ⌝ }
     requires { ⌜ Idle (first .mask) (resourcesFacing sense (resourcesOf (now q))) (tasksOf (now s)) ⌝ }
-    requires { ⌜ Roomy (length (now keys)) (length (now spare)) (length (now ss)) ⌝ }
+    requires { ⌜ Roomy (length (now s)) (length (now keys)) (length (now spare)) (length (now ss)) ⌝ }
     ensures outcome { λ o. ⌜ outcomeOf (o .ok) (tasksOf (now (s .exit))) ≡ stepsFrom AtLeast 0 (resourcesFacing sense (resourcesOf (now (q .entry)))) (tasksOf (now (s .entry))) ⌝ }
     ensures noted { λ o. ⌜ (o .ok ≡ true → Noted (resourcesFacing sense (resourcesOf (now (q .entry)))) (tasksOf (now (s .entry))) (tasksOf (now (s .exit))) (first .changed) (o .changed) (o .mask)) ⌝ }
 {
@@ -134,7 +134,7 @@ pub fn pass_rows(
 ) -> Passed
     requires { ⌜ check (resourcesFacing sense (resourcesOf (now q))) (tasksOf (now s)) ≡ Accepted ⌝ }
     requires { ⌜ Idle mask (resourcesFacing sense (resourcesOf (now q))) (tasksOf (now s)) ⌝ }
-    requires { ⌜ Roomy (length (now keys)) (length (now spare)) (length (now ss)) ⌝ }
+    requires { ⌜ Roomy (length (now s)) (length (now keys)) (length (now spare)) (length (now ss)) ⌝ }
     ensures outcome { λ o. ⌜ outcomeOf (o .ok) (tasksOf (now (s .exit))) ≡ pass AtLeast (resourcesFacing sense (resourcesOf (now (q .entry)))) (tasksOf (now (s .entry))) ⌝ }
     ensures noted { λ o. ⌜ (o .ok ≡ true → Noted (resourcesFacing sense (resourcesOf (now (q .entry)))) (tasksOf (now (s .entry))) (tasksOf (now (s .exit))) false (o .changed) (o .mask)) ⌝ }
 {
@@ -160,7 +160,7 @@ pub fn settle_rows(
     ss: &mut [[i64; 4]],
 ) -> Settling
     requires { ⌜ check (resourcesFacing sense (resourcesOf (now q))) (tasksOf (now s)) ≡ Accepted ⌝ }
-    requires { ⌜ Roomy (length (now keys)) (length (now spare)) (length (now ss)) ⌝ }
+    requires { ⌜ Roomy (length (now s)) (length (now keys)) (length (now spare)) (length (now ss)) ⌝ }
     ensures { λ o. ⌜ settledOf o (tasksOf (now (s .exit))) ≡ settle AtLeast (resourcesFacing sense (resourcesOf (now (q .entry)))) (tasksOf (now (s .entry))) ⌝ }
 {
     let mut mask: u64 = 0xffff_ffff_ffff_ffff;
@@ -278,7 +278,7 @@ fn work(
     ss: &mut [[i64; 4]],
 ) -> Settling
     requires { ⌜ (check (resourcesFacing sense (resourcesOf (now q))) (tasksOf (now s)) ≡ Accepted) × (placedIn (length (now q)) c ≡ true) ⌝ }
-    requires { ⌜ Roomy (length (now keys)) (length (now spare)) (length (now ss)) ⌝ }
+    requires { ⌜ Roomy (length (now s)) (length (now keys)) (length (now spare)) (length (now ss)) ⌝ }
     ensures { λ r. ⌜ settledOf r (tasksOf (now (s .exit))) ≡ workOf c (resourcesFacing sense (resourcesOf (now (q .entry)))) (tasksOf (now (s .entry))) ⌝ }
 {
     match c {
@@ -310,7 +310,7 @@ pub fn worked(
     ss: &mut [[i64; 4]],
 ) -> Answer
     requires { ⌜ (check (resourcesOf (now q)) (tasksOf (now s)) ≡ Accepted) × (placedIn (length (now q)) c ≡ true) ⌝ }
-    requires { ⌜ Roomy (length (now keys)) (length (now spare)) (length (now ss)) ⌝ }
+    requires { ⌜ Roomy (length (now s)) (length (now keys)) (length (now spare)) (length (now ss)) ⌝ }
     ensures { λ r. ⌜ resultOf r (tasksOf (now (s .entry))) (tasksOf (now (s .exit))) ≡ callOf c sense (resourcesOf (now (q .entry))) (tasksOf (now (s .entry))) ⌝ }
 {
     turn_rows(sense, s);

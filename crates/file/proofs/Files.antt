@@ -414,6 +414,12 @@ module _ (places space : ℕ) (file : List ℕ) where
   pub refused : {f : Refusal} → readAnswer (readPlan places space file) ≡ ReadAnswer.Refused f → readPlan places space file ≡ Read.Refuse f
   refused g = refused-by (readPlan places space file) g
 
+-- fewer places for tasks change nothing, where the header counts no more tasks
+pub room-same : (places space : ℕ) (file : List ℕ) → headerIn file .tasks ≤ space → space ≤ mostTasks → readPlan places space file ≡ readPlan places mostTasks file
+unfolding readPlan shapeDue headerDue
+room-same places space file h few =
+    rw (le-ltb space (headerIn file .tasks) h, le-ltb mostTasks (headerIn file .tasks) (omega (arith, h, few))) refl
+
 -- the answer and the lists laid over are what the call is to give
 pub read-lays : {places space : ℕ} {file : List ℕ} {sense : Sense} {n m : ℕ} (t : Told places space file sense n m) (qs : List Resource) (ts : List Task) {later : List Resource} {after : List Task} → later ≡ laid (t .resources) qs → after ≡ laid (t .tasks) ts → readResult (ReadAnswer.Plan sense n m) later after ≡ readInto (readPlan places space file) qs ts
 read-lays {sense} {n} {m} t qs ts {later} {after} p q =

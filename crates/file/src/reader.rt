@@ -1,6 +1,6 @@
 // A reader stands in the lent file bytes and hands out one record after another: a cursor by value on the bytes.
 ghost use mathlib.Core.Path.{_≡_};
-ghost use Prim.Native.Nat.{_+_, _*_, _≤_, _<_, _^_};
+ghost use Prim.Native.Nat.{ℕ, _+_, _*_, _≤_, _<_, _^_};
 ghost use mathlib.Core.List.{map};
 ghost use lib.ListN.{length, take, drop};
 ghost use lib.Seq.{sets};
@@ -34,7 +34,7 @@ use plan::Span;
 use plan::Task;
 
 // What each record holds, where the bytes begin with it.
-fn header_of(b: &[u8]) -> Header
+pub fn header_of(b: &[u8]) -> Header
     requires { ⌜ 6 ≤ length (now b) ⌝ }
     ensures { λ r. ⌜ r ≡ headerFrom (numbersIn PL (now (b .entry))) ⌝ }
 {
@@ -312,7 +312,8 @@ fn read_after(file: &[u8], h: Header, q: &mut [[i64; 2]], s: &mut [[i64; 9]]) ->
     }
 }
 
-// The plan of a file, into rows of our own: nothing lent is touched before the file is known to be whole.
+// The plan of a file, into rows of our own with places for every count that is not refused: nothing lent is touched before the file is
+// known to be whole.
 pub fn read_plan(
     file: &[u8],
     places: usize,
@@ -320,7 +321,7 @@ pub fn read_plan(
     q: &mut [[i64; 2]],
     s: &mut [[i64; 9]],
 ) -> ReadAnswer
-    requires { ⌜ (mostResources ≤ length (now q)) × (mostTasks ≤ length (now s)) ⌝ }
+    requires { ⌜ (mostResources ≤ length (now q)) × ((n : ℕ) → n ≤ mostTasks → n ≤ room → n ≤ length (now s)) ⌝ }
     ensures { λ r. ⌜ r ≡ readAnswer (readPlan places room (now (file .entry))) ⌝ }
     ensures { λ _. ⌜ Stands (readPlan places room (now (file .entry))) (resourcesOf (now (q .exit))) (tasksOf (now (s .exit))) ⌝ }
 {

@@ -4,9 +4,11 @@ ghost use mathlib.Core.Bool.{true};
 ghost use Prim.Native.Nat.{ℕ, _≤_};
 ghost use lib.ListN.{length};
 ghost use Rattle.plan.specs.declared.Answer.the-variants.{Refused};
-ghost use Rattle.rules.specs.Calls.{check};
+ghost use Rattle.rules.specs.Calls.{check, mostResources, mostTasks};
 ghost use Rattle.rules.specs.Calls.Checked.{Accepted};
 ghost use Rattle.rows.specs.View.{tasksOf, resourcesOf};
+ghost use Rattle.step.specs.Asks.{Roomy};
+ghost use Rattle.file.specs.Reading.{headerIn, readPlan};
 ghost use Rattle.engine.specs.declared.Call.the-variants.{Balance, Step, Settle};
 ghost use Rattle.engine.specs.Calls.{callOf, placedIn};
 ghost use Rattle.gristwaltz.specs.Files.{answerNumber, fileLength, fileResult, resultFile, planCall, fileCall, checkFile};
@@ -24,15 +26,21 @@ fn refusal_number(f: Refusal) -> u64
 }
 
 // A call on a plan that passed the checks, with room for its file in out.
-fn work_plan(c: Call, sense: Sense, q: &[[i64; 2]], s: &mut [[i64; 9]], out: &mut [u8]) -> u64
+fn work_plan(
+    c: Call,
+    sense: Sense,
+    q: &[[i64; 2]],
+    s: &mut [[i64; 9]],
+    keys: &mut [u64],
+    spare: &mut [u64],
+    ss: &mut [[i64; 4]],
+    out: &mut [u8],
+) -> u64
     requires { ⌜ (check (resourcesOf (now q)) (tasksOf (now s)) ≡ Accepted) × (placedIn (length (now q)) c ≡ true) × (fileLength (length (now q)) (length (now s)) ≤ length (now out)) ⌝ }
+    requires { ⌜ Roomy (length (now s)) (length (now keys)) (length (now spare)) (length (now ss)) ⌝ }
     ensures { λ r. ⌜ fileResult r (now (out .exit)) ≡ resultFile sense (resourcesOf (now (q .entry))) (now (out .entry)) (callOf c sense (resourcesOf (now (q .entry))) (tasksOf (now (s .entry)))) ⌝ }
 {
-    let mut keys = [0u64; 1024];
-    let mut spare = [0u64; 1024];
-    let none = [0i64; 4];
-    let mut stretches = [none; 1025];
-    let answer = engine::worked(c, sense, q, s, &mut keys, &mut spare, &mut stretches);
+    let answer = engine::worked(c, sense, q, s, keys, spare, ss);
     match answer {
         Answer::Refused(f) => refusal_number(f),
         Answer::Done(n) => {
@@ -43,8 +51,18 @@ fn work_plan(c: Call, sense: Sense, q: &[[i64; 2]], s: &mut [[i64; 9]], out: &mu
 }
 
 // 12 for a place, 10 for an output shorter than the file, then the call.
-fn call_plan(c: Call, sense: Sense, q: &[[i64; 2]], s: &mut [[i64; 9]], out: &mut [u8]) -> u64
+fn call_plan(
+    c: Call,
+    sense: Sense,
+    q: &[[i64; 2]],
+    s: &mut [[i64; 9]],
+    keys: &mut [u64],
+    spare: &mut [u64],
+    ss: &mut [[i64; 4]],
+    out: &mut [u8],
+) -> u64
     requires { ⌜ check (resourcesOf (now q)) (tasksOf (now s)) ≡ Accepted ⌝ }
+    requires { ⌜ Roomy (length (now s)) (length (now keys)) (length (now spare)) (length (now ss)) ⌝ }
     ensures { λ r. ⌜ fileResult r (now (out .exit)) ≡ planCall c sense (resourcesOf (now (q .entry))) (tasksOf (now (s .entry))) (now (out .entry)) ⌝ }
 {
     if !engine::is_placed(c, q.len()) {
@@ -54,22 +72,130 @@ fn call_plan(c: Call, sense: Sense, q: &[[i64; 2]], s: &mut [[i64; 9]], out: &mu
     if out.len() < file {
         return refusal_number(Refusal::BufferShort);
     }
-    work_plan(c, sense, q, s, out)
+    work_plan(c, sense, q, s, keys, spare, ss, out)
 }
 
-// A call on a plan file.
-fn call_file(c: Call, file: &[u8], out: &mut [u8]) -> u64
+// A call on a plan file in lent rows: as many as the largest plan's, or as the file's header counts.
+fn call_lent(
+    c: Call,
+    file: &[u8],
+    q: &mut [[i64; 2]],
+    s: &mut [[i64; 9]],
+    keys: &mut [u64],
+    spare: &mut [u64],
+    ss: &mut [[i64; 4]],
+    out: &mut [u8],
+) -> u64
+    requires { ⌜ (mostResources ≤ length (now q)) × (readPlan mostResources (length (now s)) (now file) ≡ readPlan mostResources mostTasks (now file)) ⌝ }
+    requires { ⌜ Roomy (length (now s)) (length (now keys)) (length (now spare)) (length (now ss)) ⌝ }
+    ensures { λ r. ⌜ fileResult r (now (out .exit)) ≡ fileCall c (now (file .entry)) (now (out .entry)) ⌝ }
+{
+    let answer = file::reader::read_plan(file, 16, s.len(), q, s);
+    match answer {
+        ReadAnswer::Refused(f) => refusal_number(f),
+        ReadAnswer::Plan(sense, n, m) => call_plan(
+            c,
+            sense,
+            &q[..n],
+            &mut s[..m],
+            keys,
+            spare,
+            ss,
+            out,
+        ),
+    }
+}
+
+// Rows for 16 tasks: clearing rows that a small plan never uses would be most of its time.
+fn call_small(c: Call, file: &[u8], out: &mut [u8]) -> u64
+    requires { ⌜ headerIn (now file) .tasks ≤ 16 ⌝ }
     ensures { λ r. ⌜ fileResult r (now (out .exit)) ≡ fileCall c (now (file .entry)) (now (out .entry)) ⌝ }
 {
     let resource = [0i64; 2];
     let task = [0i64; 9];
+    let stretch = [0i64; 4];
+    let mut resources = [resource; 16];
+    let mut tasks = [task; 16];
+    let mut keys = [0u64; 64];
+    let mut spare = [0u64; 64];
+    let mut stretches = [stretch; 65];
+    call_lent(
+        c,
+        file,
+        &mut resources,
+        &mut tasks,
+        &mut keys,
+        &mut spare,
+        &mut stretches,
+        out,
+    )
+}
+
+// Rows for 64 tasks.
+fn call_middle(c: Call, file: &[u8], out: &mut [u8]) -> u64
+    requires { ⌜ headerIn (now file) .tasks ≤ 64 ⌝ }
+    ensures { λ r. ⌜ fileResult r (now (out .exit)) ≡ fileCall c (now (file .entry)) (now (out .entry)) ⌝ }
+{
+    let resource = [0i64; 2];
+    let task = [0i64; 9];
+    let stretch = [0i64; 4];
+    let mut resources = [resource; 16];
+    let mut tasks = [task; 64];
+    let mut keys = [0u64; 256];
+    let mut spare = [0u64; 256];
+    let mut stretches = [stretch; 257];
+    call_lent(
+        c,
+        file,
+        &mut resources,
+        &mut tasks,
+        &mut keys,
+        &mut spare,
+        &mut stretches,
+        out,
+    )
+}
+
+// Rows for every plan.
+fn call_large(c: Call, file: &[u8], out: &mut [u8]) -> u64
+    ensures { λ r. ⌜ fileResult r (now (out .exit)) ≡ fileCall c (now (file .entry)) (now (out .entry)) ⌝ }
+{
+    let resource = [0i64; 2];
+    let task = [0i64; 9];
+    let stretch = [0i64; 4];
     let mut resources = [resource; 16];
     let mut tasks = [task; 256];
-    let answer = file::reader::read_plan(file, 16, 256, &mut resources, &mut tasks);
-    match answer {
-        ReadAnswer::Refused(f) => refusal_number(f),
-        ReadAnswer::Plan(sense, n, m) => call_plan(c, sense, &resources[..n], &mut tasks[..m], out),
+    let mut keys = [0u64; 1024];
+    let mut spare = [0u64; 1024];
+    let mut stretches = [stretch; 1025];
+    call_lent(
+        c,
+        file,
+        &mut resources,
+        &mut tasks,
+        &mut keys,
+        &mut spare,
+        &mut stretches,
+        out,
+    )
+}
+
+// A call on a plan file, in rows as its header asks.
+fn call_file(c: Call, file: &[u8], out: &mut [u8]) -> u64
+    ensures { λ r. ⌜ fileResult r (now (out .exit)) ≡ fileCall c (now (file .entry)) (now (out .entry)) ⌝ }
+{
+    if file.len() < 6 {
+        return call_large(c, file, out);
     }
+    let h = file::reader::header_of(file);
+    let n = h.tasks;
+    if n <= 16 {
+        return call_small(c, file, out);
+    }
+    if n <= 64 {
+        return call_middle(c, file, out);
+    }
+    call_large(c, file, out)
 }
 
 // Settles the plan of a file and writes the settled plan's file.

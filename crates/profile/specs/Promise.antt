@@ -2,7 +2,7 @@
 use mathlib.Core.Path.{_≡_}
 use mathlib.Core.Bool.{Bool, true, false}
 use mathlib.Core.List.{List}
-use Prim.Native.Nat.{ℕ, _≤_, _<_}
+use Prim.Native.Nat.{ℕ, _+_, _*_, _≤_, _<_}
 use lib.IntN.{ℤ, pos, negsuc}
 use lib.ListN.{length, getD}
 use lib.Signed.{_≤ℤ_, _<ℤ_}
@@ -21,15 +21,15 @@ use Rattle.stretches.specs.Tells.{big, Tells}
 abbrev pub Fitting : List Task → Type 0
 Fitting ts = (k : ℕ) → k < length ts → rangesFit (getD ts k noTask) ≡ true
 
--- what is lent is long enough for every event and every stretch
+-- what is lent is long enough for every event, four a task, and every stretch, one more
 pub record Lent (tasks r : ℕ) (limit : ℤ) (keys spare stretches : ℕ) : Type 0 where
   pub tasks-few : tasks ≤ 256
   pub place : r < 64
   pub least : powerLow ≤ℤ limit
   pub most : limit ≤ℤ powerHigh
-  pub keys-long : 1024 ≤ keys
-  pub spare-long : 1024 ≤ spare
-  pub stretches-long : 1025 ≤ stretches
+  pub keys-long : 4 * tasks ≤ keys
+  pub spare-long : 4 * tasks ≤ spare
+  pub stretches-long : 4 * tasks + 1 ≤ stretches
 
 -- days and powers small enough for the sums that are made of them
 pub record Bounded (s : Stretch) : Type 0 where

@@ -289,11 +289,11 @@ fn collect_task(s: &[[i64; 9]], i: usize, r: u64, keys: &mut [u64], c: Collected
 
 // the events of every task that has r in its set
 fn collect(s: &[[i64; 9]], r: u64, keys: &mut [u64]) -> Collected
-    requires { ⌜ (r < 64) × (length (now s) ≤ 256) × (1024 ≤ length (now keys)) ⌝ }
+    requires { ⌜ (r < 64) × (length (now s) ≤ 256) × (4 * length (now s) ≤ length (now keys)) ⌝ }
     requires { ⌜ Fitting (tasksOf (now s)) ⌝ }
     ensures { λ q. ⌜ Laid (now (keys .entry)) (now (keys .exit)) 0 (q .events) (keysOf r (tasksOf (now (s .entry)))) ⌝ }
     ensures { λ q. ⌜ q .common ≡ common r nobody (tasksOf (now (s .entry))) ⌝ }
-    ensures { λ q. ⌜ q .events ≤ 1024 ⌝ }
+    ensures { λ q. ⌜ q .events ≤ 4 * length (now (s .entry)) ⌝ }
 {
     let mut c = Collected {
         events: 0,

@@ -1,27 +1,35 @@
--- The task at a place is one of the tasks, and what narrowing it gives is what the page gives.
+-- The task at a place is one of the tasks, and what narrowing it gives is what the page gives; one that may not stand here stays.
 use mathlib.Core.Path.{_≡_, refl, sym, ap, _∙_, subst}
 use mathlib.Core.Bool.{Bool, true, false}
 use mathlib.Core.List.{List, [], _∷_}
-use Prim.Native.Nat.{ℕ, zero, suc, _<_}
+use Prim.Native.Nat.{ℕ, zero, suc, _+_, _<_}
 use native.Mathlib.Nat.{not-suc-le-zero, le-of-suc-le-suc}
 use native.Mathlib.Omega.{arith}
 use lib.Dec.{eqb}
 use lib.IntN.{ℤ}
-use lib.ListN.{length, getD}
+use lib.ListN.{length, drop, getD}
+use lib.Seq.{drop-drop, set-getD}
 use Rattle.integers.specs.Tests.{if, any}
-use Rattle.integers.proofs.Tests.{false-in}
+use Rattle.integers.proofs.Tests.{clash, false-in}
 use Rattle.plan.specs.declared.Task.{Task}
 use Rattle.plan.specs.declared.Narrowed.{Narrowed}
+use Rattle.plan.specs.declared.Narrowed.the-variants.{Kept}
+use Rattle.plan.specs.Sets.{has}
 use Rattle.plan.proofs.Sets.{eqb-true}
 use Rattle.rules.specs.Balance.{Outcome, each}
 use Rattle.rules.specs.Balance.Outcome.{NoPlan, Plan}
 use Rattle.rules.specs.Step.{shortfall, narrowed, listedDays, atLeastStep}
+use Rattle.rules.proofs.Walk.{eachLeft, each-kept}
 use Rattle.rows.specs.View.{noTask}
 use Rattle.rows.specs.Fits.{AllFit}
+use Rattle.rows.proofs.Fits.{bounded-in}
+use Rattle.rows.proofs.Walk.{Begun}
 use Rattle.stretches.specs.declared.Stretch.{Stretch}
 use Rattle.stretches.specs.Tells.{Tells}
 use Rattle.narrow.specs.Ready.{Among}
 use Rattle.narrow.specs.Ready.Among.{head, tail}
+use Rattle.narrow.proofs.Others.{fit-out, possible-out}
+use Rattle.narrow.proofs.Page.{still-page}
 use Rattle.step.specs.Asks.{Told}
 
 among-at : (k : ℕ) (ts : List Task) → k < length ts → Among (getD ts k noTask) ts
@@ -41,6 +49,24 @@ module _ (r : ℕ) (ss : List Stretch) (ts : List Task) (fit : AllFit 64 ts) (i 
   next-narrowed limit told =
       let q : Promise r ss (getD ts i noTask) out = subst (λ (x : Task). Promise r ss x out) e p in
       sym (q limit ts (told .tells i inside) (among-at i ts inside) (told .enough) (not-empty (fit i inside .some)))
+
+-- a task that may not stand here stays
+pub away-kept : (r : ℕ) (ts : List Task) → AllFit 64 ts → (i : ℕ) → i < length ts → (limit : ℤ → ℤ) → has (getD ts i noTask .set) r ≡ false
+    → narrowed r limit ts (listedDays ts) (getD ts i noTask) ≡ Kept (getD ts i noTask)
+away-kept r ts fit i inside limit e =
+    let t = getD ts i noTask in
+    sym
+    (still-page r limit ts t (fit-out t (bounded-in t (fit i inside .ranges))) (not-empty (fit i inside .some))
+    (λ j p. clash (has (t .set) r) (possible-out r j t p .among) e))
+
+-- and the list is as it was
+pub left-same : (f : Task → Narrowed) (us : List Task) (i : ℕ) → i < length us → f (getD us i noTask) ≡ Kept (getD us i noTask) → eachLeft f (i + 1) us ≡ eachLeft f i us
+left-same f us i h e =
+    subst (λ (x : List Task). eachLeft f (i + 1) x ≡ eachLeft f i us) (set-getD us i noTask) (each-kept f noTask (getD us i noTask) i us h e)
+
+pub begun-same : (ts : List Task) (i : ℕ) (us : List Task) (touched : ℕ) → Begun ts i us touched → Begun ts (i + 1) us touched
+begun-same ts i us touched w =
+    record { size = w .size; rest = sym (drop-drop 1 i us) ∙ ap (drop 1) (w .rest) ∙ drop-drop 1 i ts; noted = w .noted }
 
 -- with no day short, the step takes each task by itself
 pub step-enough : (r : ℕ) (limit : ℤ → ℤ) (ts : List Task) → any (shortfall r limit ts) (listedDays ts) ≡ false → atLeastStep r limit ts ≡ each (narrowed r limit ts (listedDays ts)) ts

@@ -1,8 +1,8 @@
--- What a resource step asks: tasks that passed the entry checks, a limit within its ends, and room for the events and stretches of 256 tasks.
+-- What a resource step asks: tasks that passed the entry checks, a limit within its ends, and room for their events and stretches.
 use mathlib.Core.Path.{_≡_}
 use mathlib.Core.Bool.{true, false}
 use mathlib.Core.List.{List}
-use Prim.Native.Nat.{ℕ, _≤_, _<_}
+use Prim.Native.Nat.{ℕ, _+_, _*_, _≤_, _<_}
 use lib.Dec.{eqb}
 use lib.IntN.{ℤ}
 use lib.ListN.{length, getD}
@@ -23,10 +23,10 @@ pub record Asks (r : ℕ) (limit : Power) (ts : List Task) : Type 0 where
   pub limited : powerFits limit ≡ true
 
 -- four events a task, and one stretch more than events
-pub record Roomy (k l m : ℕ) : Type 0 where
-  pub keys : 1024 ≤ k
-  pub spare : 1024 ≤ l
-  pub stretches : 1025 ≤ m
+pub record Roomy (tasks k l m : ℕ) : Type 0 where
+  pub keys : 4 * tasks ≤ k
+  pub spare : 4 * tasks ≤ l
+  pub stretches : 4 * tasks + 1 ≤ m
 
 -- the stretches tell every task what it needs, and no day falls short
 pub record Told (r : ℕ) (limit : ℤ → ℤ) (ts : List Task) (ss : List Stretch) : Type 0 where

@@ -16,7 +16,7 @@ use plan::Narrowed;
 use plan::Power;
 use rows::Stepped;
 
-// Every task in list order, until a value runs out.
+// Every task in list order, until a value runs out. One that may not stand on r stays, and is not looked at further.
 fn narrow_all(s: &mut [[i64; 9]], r: u64, ss: &[[i64; 4]]) -> Stepped
     requires { ⌜ (r < 64) × AllFit 64 (tasksOf (now s)) ⌝ }
     ensures outcome { λ o. ⌜ ((limit : ℤ → ℤ) → Told r limit (tasksOf (now (s .entry))) (stretchesOf (now (ss .entry))) → outcomeOf (o .ok) (tasksOf (now (s .exit))) ≡ each (narrowed r limit (tasksOf (now (s .entry))) (listedDays (tasksOf (now (s .entry))))) (tasksOf (now (s .entry)))) ⌝ }
@@ -26,15 +26,17 @@ fn narrow_all(s: &mut [[i64; 9]], r: u64, ss: &[[i64; 4]]) -> Stepped
     let mut i: usize = 0;
     while i < s.len() {
         let t = rows::task_at(s, i);
-        match narrow::narrow(ss, t, r) {
-            Narrowed::Kept(u) => {
-                touched = rows::put_changed(s, i, u, touched);
-            }
-            Narrowed::RanOut(_) => {
-                return Stepped {
-                    ok: false,
-                    touched: 0,
-                };
+        if plan::has_resource(t.set, r) {
+            match narrow::narrow(ss, t, r) {
+                Narrowed::Kept(u) => {
+                    touched = rows::put_changed(s, i, u, touched);
+                }
+                Narrowed::RanOut(_) => {
+                    return Stepped {
+                        ok: false,
+                        touched: 0,
+                    };
+                }
             }
         }
         i += 1;
@@ -54,7 +56,7 @@ pub fn step(
     ss: &mut [[i64; 4]],
 ) -> Stepped
     requires { ⌜ Asks r limit (tasksOf (now s)) ⌝ }
-    requires { ⌜ Roomy (length (now keys)) (length (now spare)) (length (now ss)) ⌝ }
+    requires { ⌜ Roomy (length (now s)) (length (now keys)) (length (now spare)) (length (now ss)) ⌝ }
     ensures outcome { λ o. ⌜ outcomeOf (o .ok) (tasksOf (now (s .exit))) ≡ atLeastStep r (λ i. limit .0) (tasksOf (now (s .entry))) ⌝ }
     ensures touched { λ o. ⌜ (o .ok ≡ true → o .touched ≡ touchedBy (tasksOf (now (s .entry))) (tasksOf (now (s .exit)))) ⌝ }
 {

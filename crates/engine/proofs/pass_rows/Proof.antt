@@ -1,4 +1,5 @@
 -- Balance, then the steps on what it left; where balance finds no plan, so does the pass.
+use native.Mathlib.Omega.{arith}
 use borrow.Author.Needs.{needs}
 use mathlib.Core.Path.{_≡_, refl, sym, ap, _∙_, subst}
 use Prim.Native.Nat.{ℕ}
@@ -87,7 +88,8 @@ steps-rows-requires c κs =
     let d = c .before .before .before .before .before .before .before .before .before in
     let b = c .before .before .before .before .before .before .before .before .before .before .before .before .before in
     let ok = is-true (d .balance .result .ok) (c .before .before .before .before .if1 .left) in
-    ((ok, keeps d ok .accepted), (noted d ok .idle, b .pre .1 .1))
+    let l = d .balance .kept in
+    ((ok, keeps d ok .accepted), (noted d ok .idle, record { keys = omega (arith, b .pre .1 .1 .keys, l); spare = omega (arith, b .pre .1 .1 .spare, l); stretches = omega (arith, b .pre .1 .1 .stretches, l) }))
 
 -- src/lib.rt:151:1
 same-length-2 : tie.Need-same-length-2

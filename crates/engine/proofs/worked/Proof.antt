@@ -1,4 +1,5 @@
 -- Turned, worked out, and turned back: what a call answers and leaves on lists that passed the checks.
+use native.Mathlib.Omega.{arith}
 use mathlib.Core.Path.{_≡_, refl, sym, ap, _∙_, subst}
 use mathlib.Core.Bool.{true}
 use mathlib.Core.List.{List}
@@ -59,7 +60,8 @@ work-requires : tie.Need-work-requires
 work-requires c κs =
     let b = c .before .before .before .before .before .before .before .before .before in
     let d = c .before .before .before .before .before in
-    ((rw (d .turn-rows .ensures) (facing-accepted b), b .pre .0 .1), b .pre .1)
+    let l = d .turn-rows .kept in
+    ((rw (d .turn-rows .ensures) (facing-accepted b), b .pre .0 .1), record { keys = omega (arith, b .pre .1 .keys, l); spare = omega (arith, b .pre .1 .spare, l); stretches = omega (arith, b .pre .1 .stretches, l) })
 
 enum-told : tie.Need-enum-told
 enum-told c = search needs

@@ -31,7 +31,7 @@ is-true true h = refl
 is-true false h = sym h
 
 -- the place, as the page counts the resources
-placed : (c : tie.After-is-placed) (b : Bool) → c .is-placed .result ≡ b → placedIn (length (qs (c .before .before))) (c .before .before .args .c) ≡ b
+placed : (c : tie.After-is-placed) (b : Bool) → c .is-placed .result ≡ b → placedIn (length (qs (c .before .before .before .before))) (c .before .before .before .before .args .c) ≡ b
 placed c b e = rw length-resources (sym (c .is-placed .ensures) ∙ e)
 
 -- the length of the plan's file, as the code counts it
@@ -47,7 +47,7 @@ refusal-number-requires c κs = search needs
 returns : tie.Need-returns
 returns c =
     let d = c .before .before in
-    let b = d .before .before in
+    let b = d .before .before .before .before in
     ap (λ (k : ℕ). fileResult k (b .args .out .now)) (c .refusal-number .ensures)
     ∙ sym (plan-unplaced (b .args .c) (b .args .sense) (qs b) (ts b) (b .args .out .now) (placed d false (not-out (d .is-placed .result) (c .before .if1 .taken))))
 
@@ -69,7 +69,7 @@ refusal-number-requires-2 c κs = search needs
 returns-2 : tie.Need-returns-2
 returns-2 c =
     let d = c .before .before .before in
-    let b = d .before .before in
+    let b = d .before .before .before .before in
     ap (λ (k : ℕ). fileResult k (b .args .out .now)) (c .refusal-number2 .ensures)
     ∙ sym (
     plan-short (b .args .c) (b .args .sense) (qs b) (ts b) (b .args .out .now) (placed d true (is-true (d .is-placed .result) (c .before .before .if1 .left)))
@@ -78,9 +78,9 @@ returns-2 c =
 
 work-plan-requires : tie.Need-work-plan-requires
 work-plan-requires c κs =
-    let d = c .before .before .before .before in
-    let b = d .before .before in
-    (b .pre, sym (d .is-placed .ensures) ∙ is-true (d .is-placed .result) (c .before .before .before .if1 .left), c .before .before .if2 .left)
+    let d = c .before .before .before .before .before .before .before in
+    let b = d .before .before .before .before in
+    ((b .pre .0, sym (d .is-placed .ensures) ∙ is-true (d .is-placed .result) (c .before .before .before .before .before .before .if1 .left), c .before .before .before .before .before .if2 .left), b .pre .1)
 
 same-length : tie.Need-same-length
 same-length c = search needs
@@ -88,14 +88,23 @@ same-length c = search needs
 same-length-2 : tie.Need-same-length-2
 same-length-2 c = search needs
 
+same-length-3 : tie.Need-same-length-3
+same-length-3 c = search needs
+
+same-length-4 : tie.Need-same-length-4
+same-length-4 c = search needs
+
+same-length-5 : tie.Need-same-length-5
+same-length-5 c = search needs
+
 returns-3 : tie.Need-returns-3
 returns-3 c =
-    let d = c .before .before .before .before .before .before .before .before in
-    let b = d .before .before in
-    c .before .before .before .work-plan .ensures
+    let d = c .before .before .before .before .before .before .before .before .before .before .before .before .before .before .before .before in
+    let b = d .before .before .before .before in
+    c .before .before .before .before .before .before .before .before .work-plan .ensures
     ∙ sym (
-    plan-works (b .args .c) (b .args .sense) (qs b) (ts b) (b .args .out .now) (placed d true (is-true (d .is-placed .result) (c .before .before .before .before .before .before .before .if1 .left)))
-    (rw (long b) (c .before .before .before .before .before .before .if2 .left))
+    plan-works (b .args .c) (b .args .sense) (qs b) (ts b) (b .args .out .now) (placed d true (is-true (d .is-placed .result) (c .before .before .before .before .before .before .before .before .before .before .before .before .before .before .before .if1 .left)))
+    (rw (long b) (c .before .before .before .before .before .before .before .before .before .before .before .before .before .before .if2 .left))
     )
 
 pub call-plan-spec : {M : Type 1} → statement M
@@ -114,4 +123,7 @@ call-plan-spec =
     work-plan-requires
     same-length
     same-length-2
+    same-length-3
+    same-length-4
+    same-length-5
     returns-3)

@@ -1,4 +1,5 @@
 -- The reader's refusal, or 0.
+use native.Mathlib.Omega.{arith}
 use mathlib.Core.Path.{_≡_, refl, sym, ap, _∙_}
 use Rattle.rules.specs.Calls.{mostResources, mostTasks}
 use Rattle.file.specs.Reading.{readPlan}
@@ -15,7 +16,7 @@ slice-aggregate-read-plan-2 : tie.Need-slice-aggregate-read-plan-2
 slice-aggregate-read-plan-2 c = search needs
 
 read-plan-requires : tie.Need-read-plan-requires
-read-plan-requires c κs = search needs
+read-plan-requires c κs = (omega arith, λ n few room. omega (arith, few))
 
 enum-known-answer : tie.Need-enum-known-answer
 enum-known-answer c = search needs

@@ -23,15 +23,6 @@ use borrow.Author.Needs.{needs}
 use Rattle.gristwaltz.proofs.work_plan.Statement.{statement}
 use Rattle.gristwaltz.proofs.work_plan.Tie as tie
 
-slice-aggregate-worked : tie.Need-slice-aggregate-worked
-slice-aggregate-worked c = search needs
-
-slice-aggregate-worked-2 : tie.Need-slice-aggregate-worked-2
-slice-aggregate-worked-2 c = search needs
-
-slice-aggregate-worked-3 : tie.Need-slice-aggregate-worked-3
-slice-aggregate-worked-3 c = search needs
-
 abbrev qs : tie.Start → List Resource
 qs c = resourcesOf (c .args .q .now)
 
@@ -39,12 +30,12 @@ abbrev ts : tie.Start → List Task
 ts c = tasksOf (c .args .s .now)
 
 placed : (c : tie.Start) → placedIn (length (qs c)) (c .args .c) ≡ true
-placed c = rw length-resources (c .pre .1)
+placed c = rw length-resources (c .pre .0 .1)
 
 -- what the call left
 module _ (c : tie.After-worked) where
   abbrev start : tie.Start
-  start = c .before .before .before .before .before .before
+  start = c .before .before .before .before .before .before .before .before
 
   abbrev us : List Task
   us = tasksOf (c .worked .last .1 .1 .1 .0)
@@ -66,21 +57,13 @@ enum-known-answer-2 c = search needs
 
 put-plan-requires : tie.Need-put-plan-requires
 put-plan-requires c κs =
-    let w = c .before .before .before .before .before .before .before .before .before in
+    let w = c .before .before .before .before .before .before .before .before .before .before .before in
     let b = start w in
     let n = c .before .before .before .answer2 .given in
-    call-accepted (b .args .c) (b .args .sense) (qs b) (ts b) (b .pre .0) (placed b) (n .0 .0) (us w) (sym (call-is w (Answer.Done (n .0 .0)) (n .1)))
+    call-accepted (b .args .c) (b .args .sense) (qs b) (ts b) (b .pre .0 .0) (placed b) (n .0 .0) (us w) (sym (call-is w (Answer.Done (n .0 .0)) (n .1)))
 
 same-length : tie.Need-same-length
 same-length c = search needs
-
-returns : tie.Need-returns
-returns c =
-    let w = c .before .before .before .before .before .before .before .before in
-    let b = start w in
-    let f = c .before .before .answer .given in
-    ap (λ (k : ℕ). fileResult k (b .args .out .now)) (c .refusal-number .ensures)
-    ∙ ap (resultFile (b .args .sense) (qs b) (b .args .out .now)) (call-is w (Answer.Refused (f .0 .0)) (f .1))
 
 same-length-2 : tie.Need-same-length-2
 same-length-2 c = search needs
@@ -88,15 +71,41 @@ same-length-2 c = search needs
 same-length-3 : tie.Need-same-length-3
 same-length-3 c = search needs
 
+same-length-4 : tie.Need-same-length-4
+same-length-4 c = search needs
+
+returns : tie.Need-returns
+returns c =
+    let w = c .before .before .before .before .before .before .before .before .before .before in
+    let b = start w in
+    let f = c .before .before .answer .given in
+    ap (λ (k : ℕ). fileResult k (b .args .out .now)) (c .refusal-number .ensures)
+    ∙ ap (resultFile (b .args .sense) (qs b) (b .args .out .now)) (call-is w (Answer.Refused (f .0 .0)) (f .1))
+
+same-length-5 : tie.Need-same-length-5
+same-length-5 c = search needs
+
+same-length-6 : tie.Need-same-length-6
+same-length-6 c = search needs
+
+same-length-7 : tie.Need-same-length-7
+same-length-7 c = search needs
+
+same-length-8 : tie.Need-same-length-8
+same-length-8 c = search needs
+
+same-length-9 : tie.Need-same-length-9
+same-length-9 c = search needs
+
 returns-2 : tie.Need-returns-2
 returns-2 c =
-    let w = c .before .before .before .before .before .before .before .before .before .before .before .before in
+    let w = c .before .before .before .before .before .before .before .before .before .before .before .before .before .before in
     let b = start w in
     let n = c .before .before .before .before .before .before .answer2 .given in
     let out = b .args .out .now in
     let file = written (b .args .sense) (qs b) (us w) in
     let long : length file ≤ length out =
-    omega (arith, length-written (b .args .sense) (qs b) (us w), length-tasks (c .before .before .before .before .before .before .before .before .before .before .before .before .worked .last .1 .1 .1 .0), length-resources (b .args .q .now), b .pre .2) in
+    omega (arith, length-written (b .args .sense) (qs b) (us w), length-tasks (c .before .before .before .before .before .before .before .before .before .before .before .before .before .before .worked .last .1 .1 .1 .0), length-resources (b .args .q .now), b .pre .0 .2) in
     let e = c .before .before .put-plan .ensures ∙ fits-laid file out long in
     ap (fileResult (n .0 .0)) (ap (λ (x : WriteResult). x .buffer) e)
     ∙ ap (resultFile (b .args .sense) (qs b) out) (call-is w (Answer.Done (n .0 .0)) (n .1))
@@ -105,16 +114,19 @@ pub work-plan-spec : {M : Type 1} → statement M
 work-plan-spec =
     tie.close
     (tie.spec
-    slice-aggregate-worked
-    slice-aggregate-worked-2
-    slice-aggregate-worked-3
     worked-requires
     enum-known-answer
     refusal-number-requires
     enum-known-answer-2
     put-plan-requires
     same-length
-    returns
     same-length-2
     same-length-3
+    same-length-4
+    returns
+    same-length-5
+    same-length-6
+    same-length-7
+    same-length-8
+    same-length-9
     returns-2)

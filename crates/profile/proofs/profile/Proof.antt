@@ -25,7 +25,7 @@ sweep-events-requires c κs =
     let l = a .pre .0 in
     let e = q .ensures .1 .1 in
     let x = a .args .limit .0 in (
-      (omega (arith, e, q .kept .1 .1 .0, l), e, omega (arith, e, l), omega (arith, e, l)),
+      (omega (arith, e, q .kept .1 .1 .0, l), omega (arith, e, l), omega (arith, e, l), omega (arith, e, l)),
       rw (c .before .negated .ensures) (omega (z, ~z x, l .least, l .most), omega (z, ~z x, l .least, l .most)),
     )
 

@@ -2,6 +2,7 @@
 use borrow.Author.Needs.{needs}
 use native.Mathlib.Omega.{arith}
 use mathlib.Core.Path.{_≡_, refl, sym, ap, _∙_}
+use mathlib.Core.Logic.{⊎-elim}
 use mathlib.Core.Bool.{false}
 use mathlib.Core.List.{List}
 use Prim.Native.Nat.{ℕ, _≤_, _<_, _-_}
@@ -11,6 +12,7 @@ use Rattle.integers.proofs.Tests.{clash}
 use Rattle.plan.specs.declared.Task.{Task}
 use Rattle.plan.specs.declared.Narrowed.{Narrowed}
 use Rattle.plan.specs.declared.Narrowed.the-variants.{Kept, RanOut}
+use Rattle.plan.specs.Sets.{has}
 use Rattle.rules.specs.Balance.{each}
 use Rattle.rules.specs.Step.{narrowed, listedDays}
 use Rattle.rules.proofs.Walk.{eachLeft, each-start, each-kept, each-out, each-end}
@@ -22,7 +24,7 @@ use Rattle.rows.proofs.Walk.{Begun, begun-start, begun-next, begun-more}
 use Rattle.stretches.specs.declared.Stretch.{Stretch}
 use Rattle.stretches.specs.View.{stretchesOf}
 use Rattle.step.specs.Asks.{Told}
-use Rattle.step.proofs.Listed.{next-narrowed}
+use Rattle.step.proofs.Listed.{next-narrowed, away-kept, left-same, begun-same}
 use Rattle.step.proofs.narrow_all.Statement.{statement}
 use Rattle.step.proofs.narrow_all.Tie as tie
 
@@ -45,26 +47,29 @@ loop-holds c =
 task-at-requires : tie.Need-task-at-requires Inv-loop μ-loop
 task-at-requires c κs = search needs
 
+has-resource-requires : tie.Need-has-resource-requires Inv-loop μ-loop
+has-resource-requires c κs = c .before .before .before .before .pre .0
+
 narrow-requires : tie.Need-narrow-requires Inv-loop μ-loop
 narrow-requires c κs =
-    let b = c .before .before .before in
+    let b = c .before .before .before .before .before in
     let s = b .before .args .s .now in
-    let e = c .task-at .ensures ∙ begun-next (tasksOf s) (b .loop .i) (tasksOf (b .loop .s)) (b .loop .touched) (b .loop .inv .2) in
+    let e = c .before .before .task-at .ensures ∙ begun-next (tasksOf s) (b .loop .i) (tasksOf (b .loop .s)) (b .loop .touched) (b .loop .inv .2) in
     let l : b .loop .i < length (tasksOf s) = omega (arith, length-tasks s) in
     record { place = b .before .pre .0; fits = rw e (bounded-in (getD (tasksOf s) (b .loop .i) noTask) (b .before .pre .1 (b .loop .i) l .ranges)) }
 
 -- what the page makes of the next task
 narrowed-next : (c : tie.After-narrow Inv-loop μ-loop) (limit : ℤ → ℤ)
-    → Told (c .before .before .before .before .before .args .r) limit (tasksOf (c .before .before .before .before .before .args .s .now)) (stretchesOf (c .before .before .before .before .before .args .ss .now))
-    → narrowed (c .before .before .before .before .before .args .r) limit (tasksOf (c .before .before .before .before .before .args .s .now)) (listedDays (tasksOf (c .before .before .before .before .before .args .s .now))) (getD (tasksOf (c .before .before .before .before .loop .s)) (c .before .before .before .before .loop .i) noTask) ≡ c .narrow .result
+    → Told (c .before .before .before .before .before .before .before .args .r) limit (tasksOf (c .before .before .before .before .before .before .before .args .s .now)) (stretchesOf (c .before .before .before .before .before .before .before .args .ss .now))
+    → narrowed (c .before .before .before .before .before .before .before .args .r) limit (tasksOf (c .before .before .before .before .before .before .before .args .s .now)) (listedDays (tasksOf (c .before .before .before .before .before .before .before .args .s .now))) (getD (tasksOf (c .before .before .before .before .before .before .loop .s)) (c .before .before .before .before .before .before .loop .i) noTask) ≡ c .narrow .result
 narrowed-next c limit told =
-    let l = c .before .before .before .before in
+    let l = c .before .before .before .before .before .before in
     let b = l .before in
     let s = b .args .s .now in
     let n = begun-next (tasksOf s) (l .loop .i) (tasksOf (l .loop .s)) (l .loop .touched) (l .loop .inv .2) in
     let inside : l .loop .i < length (tasksOf s) = omega (arith, length-tasks s) in
     rw n
-    (next-narrowed (b .args .r) (stretchesOf (b .args .ss .now)) (tasksOf s) (b .pre .1) (l .loop .i) inside (c .before .task-at .result) (c .before .task-at .ensures ∙ n) (c .narrow .result) (c .narrow .ensures) limit told)
+    (next-narrowed (b .args .r) (stretchesOf (b .args .ss .now)) (tasksOf s) (b .pre .1) (l .loop .i) inside (c .before .before .before .task-at .result) (c .before .before .before .task-at .ensures ∙ n) (c .narrow .result) (c .narrow .ensures) limit told)
 
 enum-known-u : tie.Need-enum-known-u Inv-loop μ-loop
 enum-known-u c = search needs
@@ -80,7 +85,7 @@ same-length c = omega arith
 
 returns : tie.Need-returns Inv-loop μ-loop
 returns c =
-    let l = c .before .before .before .before .before .before in
+    let l = c .before .before .before .before .before .before .before .before in
     let b = l .before in
     let ts = tasksOf (b .args .s .now) in
     let us = tasksOf (l .loop .s) in
@@ -100,23 +105,47 @@ add-i c = omega arith
 loop-less : tie.Need-loop-less Inv-loop μ-loop
 loop-less c = omega arith
 
+-- a task that was narrowed is put back; one that may not stand here stays, and so does the list
 loop-again : tie.Need-loop-again Inv-loop μ-loop
 loop-again c =
-    let l = c .before .before .before .before .before .before .before .before .before .before in
+    let l = c .before .before .before .before .before in
     let b = l .before in
-    let ts = tasksOf (b .args .s .now) in
+    let s = b .args .s .now in
+    let ts = tasksOf s in
     let us = tasksOf (l .loop .s) in
-    let h : l .loop .i < length us = omega (arith, length-tasks (l .loop .s)) in
-    let u = c .before .before .before .before .u .given in
-    let p = c .before .put-changed .ensures in (
-      omega arith,
-      omega arith,
-      rw (p .0, p .1) (begun-more ts (l .loop .i) us (l .loop .touched) (u .0 .0) h (l .loop .inv .2)),
+    let r = b .args .r in
+    let i = l .loop .i in
+    let h : i < length us = omega (arith, length-tasks (l .loop .s)) in
+    let inside : i < length ts = omega (arith, length-tasks s) in
+    let n = begun-next ts i us (l .loop .touched) (l .loop .inv .2) in
+    let t = c .before .before .task-at in
+    ⊎-elim
+    (λ w.
+    let u = w .3 .given in
+    let p = w .6 .ensures in
+    let k : length (c .if1 .s) ≡ length (w .6 .last .0) = ap length (w .8) in
+    let kept : length (w .6 .last .0) ≡ length (l .loop .s) = w .6 .kept .0 in (
+      omega (arith, inside, length-tasks s),
+      k ∙ kept ∙ l .loop .inv .1,
+      rw (ap tasksOf (w .8) ∙ p .0, w .9 ∙ p .1) (begun-more ts i us (l .loop .touched) (u .0 .0) h (l .loop .inv .2)),
       λ limit told.
-          rw (p .0)
-          (each-kept (narrowed (b .args .r) limit ts (listedDays ts)) noTask (u .0 .0) (l .loop .i) us h (narrowed-next (c .before .before .before .before .before .before) limit told ∙ u .1)
-          ∙ l .loop .inv .3 limit told),
-    )
+          let e = next-narrowed r (stretchesOf (b .args .ss .now)) ts (b .pre .1) i inside (t .result) (t .ensures ∙ n) (w .1 .result) (w .1 .ensures) limit told in
+          rw (ap tasksOf (w .8) ∙ p .0)
+          (each-kept (narrowed r limit ts (listedDays ts)) noTask (u .0 .0) i us h (rw n (e ∙ u .1)) ∙ l .loop .inv .3 limit told),
+    ))
+    (λ w.
+    let e : has (getD ts i noTask .set) r ≡ false = ap (λ (x : Task). has (x .set) r) (sym (t .ensures ∙ n)) ∙ sym (c .before .has-resource .ensures) ∙ w .0 .left in
+    let f : c .if1 .s ≡ l .loop .s = w .1 in
+    let g : c .if1 .touched ≡ l .loop .touched = w .2 in
+    let k = ap length f in (
+      omega (arith, inside, length-tasks s),
+      k ∙ l .loop .inv .1,
+      rw (f, g) (begun-same ts i us (l .loop .touched) (l .loop .inv .2)),
+      λ limit told.
+          rw f
+          (left-same (narrowed r limit ts (listedDays ts)) us i h (rw n (away-kept r ts (b .pre .1) i inside limit e)) ∙ l .loop .inv .3 limit told),
+    ))
+    (c .if1 .came)
 
 same-length-2 : tie.Need-same-length-2 Inv-loop μ-loop
 same-length-2 c = omega arith
@@ -140,6 +169,7 @@ narrow-all-spec =
     μ-loop
     loop-holds
     task-at-requires
+    has-resource-requires
     narrow-requires
     enum-known-u
     put-changed-requires

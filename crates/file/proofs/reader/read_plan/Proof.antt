@@ -55,7 +55,7 @@ read-after-requires c κs =
     let s = c .before .before .before .before .before .before .before .before .before .before in
     let h = c .before .before .before .before .before .before .got .given .0 .0 in
     let f = few (s .args .places) (s .args .room) h (sym (c .before .before .before .before .check-header .ensures) ∙ ap checkedOf (c .before .before .enum-told .given .1)) in
-    (omega (arith, f .resources, s .pre .0), omega (arith, f .tasks, s .pre .1))
+    (omega (arith, f .resources, s .pre .0), s .pre .1 (h .tasks) (f .tasks) (f .room))
 
 returns-2 : tie.Need-returns-2
 unfolding readPlan shapeDue
