@@ -1,0 +1,2 @@
+-- The laws of lists that are loaded into arrays.
+pub mod Loaded

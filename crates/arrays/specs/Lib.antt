@@ -1,0 +1,2 @@
+-- What a call on arrays promises.
+pub mod Runs
