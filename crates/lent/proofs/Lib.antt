@@ -1,0 +1,3 @@
+-- Laws of the two calls: what is packed, and the counts that are refused.
+pub mod Packed
+pub mod Writing
