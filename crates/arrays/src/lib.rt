@@ -33,7 +33,7 @@ fn fewer_of(a: usize, b: usize) -> usize
     if a < b { a } else { b }
 }
 
-fn pack_resources(resources: [Resource; 16], q: &mut [[i64; 2]])
+pub fn pack_resources(resources: [Resource; 16], q: &mut [[i64; 2]])
     requires { ⌜ length (now q) ≤ 16 ⌝ }
     ensures { λ _. ⌜ resourcesOf (now (q .exit)) ≡ take (length (now (q .entry))) resources ⌝ }
 {
@@ -45,7 +45,7 @@ fn pack_resources(resources: [Resource; 16], q: &mut [[i64; 2]])
     }
 }
 
-fn pack_tasks(tasks: [Task; 256], s: &mut [[i64; 9]])
+pub fn pack_tasks(tasks: [Task; 256], s: &mut [[i64; 9]])
     requires { ⌜ length (now s) ≤ 256 ⌝ }
     ensures { λ _. ⌜ tasksOf (now (s .exit)) ≡ take (length (now (s .entry))) tasks ⌝ }
 {
@@ -58,7 +58,7 @@ fn pack_tasks(tasks: [Task; 256], s: &mut [[i64; 9]])
 }
 
 // The tasks of the rows in the array's first places.
-fn unpack_tasks(s: &[[i64; 9]], tasks: [Task; 256]) -> [Task; 256]
+pub fn unpack_tasks(s: &[[i64; 9]], tasks: [Task; 256]) -> [Task; 256]
     requires { ⌜ length (now s) ≤ 256 ⌝ }
     ensures { λ r. ⌜ r ≡ tasksOf (now (s .entry)) ++ drop (length (now (s .entry))) tasks ⌝ }
 {

@@ -29,6 +29,9 @@ pub tasks-held : (p : Tasks) (ts : List Task) → p ≡ loadedTasks ts → Holds
 unfolding loadedTasks
 tasks-held p ts e h = ap (λ (x : Tasks). take (length ts) (x .list)) e ∙ firsts-back 256 noTask ts h
 
+pub tasks-back : (p : Tasks) (ts : List Task) → p ≡ loadedTasks ts → length ts ≤ 256 → take (p .count) (p .list) ≡ ts
+tasks-back p ts e h = ap (λ (k : ℕ). take k (p .list)) (tasks-count p ts e) ∙ tasks-held p ts e h
+
 pub resources-count : (q : Resources) (qs : List Resource) → q ≡ loadedResources qs → q .count ≡ length qs
 unfolding loadedResources
 resources-count q qs e = ap (λ (x : Resources). x .count) e
@@ -36,3 +39,6 @@ resources-count q qs e = ap (λ (x : Resources). x .count) e
 pub resources-held : (q : Resources) (qs : List Resource) → q ≡ loadedResources qs → Holds mostResources (q .list) qs
 unfolding loadedResources
 resources-held q qs e h = ap (λ (x : Resources). take (length qs) (x .list)) e ∙ firsts-back 16 noResource qs h
+
+pub resources-back : (q : Resources) (qs : List Resource) → q ≡ loadedResources qs → length qs ≤ 16 → take (q .count) (q .list) ≡ qs
+resources-back q qs e h = ap (λ (k : ℕ). take k (q .list)) (resources-count q qs e) ∙ resources-held q qs e h

@@ -1,0 +1,38 @@
+-- What the cores of the two calls promise: of any lists that what was loaded comes from, and of any lists of so many places.
+use mathlib.Core.Path.{_≡_}
+use mathlib.Core.List.{List, _++_}
+use Prim.Native.Nat.{ℕ, _≤_}
+use lib.ListN.{length, take, drop}
+use Rattle.plan.specs.declared.Task.{Task}
+use Rattle.plan.specs.declared.Resource.{Resource}
+use Rattle.plan.specs.declared.Sense.{Sense}
+use Rattle.rules.specs.Calls.{mostResources, mostTasks}
+use Rattle.file.specs.declared.ReadAnswer.{ReadAnswer}
+use Rattle.file.specs.declared.WriteAnswer.{WriteAnswer}
+use Rattle.file.specs.Reading.{ReadResult, readResult, readCall}
+use Rattle.file.specs.Writing.{writeResult, writeCall}
+use Rattle.lists.specs.declared.Resources.{Resources}
+use Rattle.lists.specs.declared.Tasks.{Tasks}
+use Rattle.lists.specs.Loaded.{loadedTasks, loadedResources}
+use Rattle.lent.specs.declared.Taken.{Taken}
+
+-- ---- writing: the answer, and what the buffer holds later
+abbrev pub Writes : Sense → Resources → Tasks → List ℕ → WriteAnswer → List ℕ → Type 0
+Writes sense q p out r later =
+    (qs : List Resource) (ts : List Task) → q ≡ loadedResources qs → p ≡ loadedTasks ts → writeResult r later ≡ writeCall sense qs ts out
+
+-- ---- reading
+-- an answer with the rows' records: how many are to be stored
+abbrev pub takenOf : ReadAnswer → List Resource → List Task → Taken
+takenOf (ReadAnswer.Plan sense n m) rs us = record { answer = ReadAnswer.Plan sense n m; resources = rs; listed = n; tasks = us; stored = m }
+takenOf (ReadAnswer.Refused f) rs us = record { answer = ReadAnswer.Refused f; resources = rs; listed = 0; tasks = us; stored = 0 }
+
+-- the answer, and the lists once the first places of each array are stored
+abbrev pub kept : Taken → List Resource → List Task → ReadResult
+kept r qs ts =
+    readResult (r .answer) (take (r .listed) (r .resources) ++ drop (r .listed) qs) (take (r .stored) (r .tasks) ++ drop (r .stored) ts)
+
+abbrev pub Takes : ℕ → ℕ → List ℕ → Taken → Type 0
+Takes places room file r =
+    (qs : List Resource) (ts : List Task) → length qs ≡ places → length ts ≡ room
+    → (r .listed ≤ mostResources) × (r .listed ≤ length qs) × (r .stored ≤ mostTasks) × (r .stored ≤ length ts) × (kept r qs ts ≡ readCall file qs ts)

@@ -1,0 +1,2 @@
+-- What the two calls' cores promise.
+pub mod Calls

@@ -1,0 +1,145 @@
+// A plan file read into lent lists of records, and lent lists written into a lent buffer.
+ghost use mathlib.Core.Path.{_≡_};
+ghost use Prim.Native.Nat.{_≤_};
+ghost use lib.ListN.{length, take};
+ghost use Rattle.rules.specs.Calls.{mostResources, mostTasks};
+ghost use Rattle.rows.specs.View.{tasksOf, resourcesOf};
+ghost use Rattle.file.specs.Reading.{readResult, readCall};
+ghost use Rattle.file.specs.Writing.{writeResult, writeCall};
+ghost use Rattle.lent.specs.Calls.{Writes, Takes, takenOf};
+use file::ReadAnswer;
+use file::WriteAnswer;
+use lists::Resources;
+use lists::Tasks;
+use plan::Refusal;
+use plan::Resource;
+use plan::Sense;
+use plan::Task;
+
+// ---- writing
+// Lists that the arrays hold whole: 1 to 6, then 10.
+fn write_few(sense: Sense, q: Resources, p: Tasks, out: &mut [u8]) -> WriteAnswer
+    requires { ⌜ (q .count ≤ mostResources) × (p .count ≤ mostTasks) ⌝ }
+    ensures { λ r. ⌜ writeResult r (now (out .exit)) ≡ writeCall sense (take (q .count) (q .list)) (take (p .count) (p .list)) (now (out .entry)) ⌝ }
+{
+    let resource = [0i64; 2];
+    let task = [0i64; 9];
+    let mut resources = [resource; 16];
+    let mut tasks = [task; 256];
+    let n = q.count;
+    let m = p.count;
+    let first = q.list;
+    let list = p.list;
+    arrays::pack_resources(first, &mut resources);
+    arrays::pack_tasks(list, &mut tasks);
+    file::write(sense, &resources[..n], &tasks[..m], out)
+}
+
+// What is loaded of two lists of any length: a count above its most is refused before anything is packed.
+fn write_loaded(sense: Sense, q: Resources, p: Tasks, out: &mut [u8]) -> WriteAnswer
+    ensures { λ r. ⌜ Writes sense q p (now (out .entry)) r (now (out .exit)) ⌝ }
+{
+    let resources = q.count;
+    let tasks = p.count;
+    if 256 < tasks {
+        return WriteAnswer::Refused(Refusal::TooManyTasks);
+    }
+    if 16 < resources {
+        return WriteAnswer::Refused(Refusal::ResourceCount);
+    }
+    write_few(sense, q, p, out)
+}
+
+// "The writer writes exactly the file's length."
+pub fn write(sense: Sense, resources: &[Resource], tasks: &[Task], out: &mut [u8]) -> WriteAnswer
+    ensures { λ r. ⌜ writeResult r (now (out .exit)) ≡ writeCall sense (now (resources .entry)) (now (tasks .entry)) (now (out .entry)) ⌝ }
+{
+    let q = lists::load_resources(resources);
+    let p = lists::load_tasks(tasks);
+    write_loaded(sense, q, p, out)
+}
+
+// ---- reading
+// What is taken out of a file: the answer, and for each list an array and how many of its first places are to be stored.
+pub struct Taken {
+    pub answer: ReadAnswer,
+    pub resources: [Resource; 16],
+    pub listed: usize,
+    pub tasks: [Task; 256],
+    pub stored: usize,
+}
+
+fn resources_in(q: &[[i64; 2]]) -> [Resource; 16]
+    requires { ⌜ length (now q) ≡ mostResources ⌝ }
+    ensures { λ r. ⌜ r ≡ resourcesOf (now (q .entry)) ⌝ }
+{
+    let none = rows::resource_at(q, 0);
+    let mut list = [none; 16];
+    let mut i: usize = 0;
+    while i < q.len() {
+        let resource = rows::resource_at(q, i);
+        list[i] = resource;
+        i += 1;
+    }
+    list
+}
+
+fn tasks_in(s: &[[i64; 9]]) -> [Task; 256]
+    requires { ⌜ length (now s) ≡ mostTasks ⌝ }
+    ensures { λ r. ⌜ r ≡ tasksOf (now (s .entry)) ⌝ }
+{
+    let none = rows::task_at(s, 0);
+    let list = [none; 256];
+    arrays::unpack_tasks(s, list)
+}
+
+// "On each refusal, task lists and buffers keep their entry contents": nothing is to be stored.
+fn out_of_rows(answer: ReadAnswer, q: &[[i64; 2]], s: &[[i64; 9]]) -> Taken
+    requires { ⌜ (length (now q) ≡ mostResources) × (length (now s) ≡ mostTasks) ⌝ }
+    ensures { λ r. ⌜ r ≡ takenOf answer (resourcesOf (now (q .entry))) (tasksOf (now (s .entry))) ⌝ }
+{
+    let resources = resources_in(q);
+    let tasks = tasks_in(s);
+    match answer {
+        ReadAnswer::Refused(f) => Taken {
+            answer: ReadAnswer::Refused(f),
+            resources: resources,
+            listed: 0,
+            tasks: tasks,
+            stored: 0,
+        },
+        ReadAnswer::Plan(sense, n, m) => Taken {
+            answer: ReadAnswer::Plan(sense, n, m),
+            resources: resources,
+            listed: n,
+            tasks: tasks,
+            stored: m,
+        },
+    }
+}
+
+// The plan of a file, for lent lists of so many places.
+fn take_plan(file: &[u8], places: usize, room: usize) -> Taken
+    ensures { λ r. ⌜ Takes places room (now (file .entry)) r ⌝ }
+{
+    let resource = [0i64; 2];
+    let task = [0i64; 9];
+    let mut q = [resource; 16];
+    let mut s = [task; 256];
+    let answer = file::reader::read_plan(file, places, room, &mut q, &mut s);
+    out_of_rows(answer, &q, &s)
+}
+
+// "On success the reader writes the first places only and later ones stay."
+pub fn read(file: &[u8], resources: &mut [Resource], tasks: &mut [Task]) -> ReadAnswer
+    ensures { λ r. ⌜ readResult r (now (resources .exit)) (now (tasks .exit)) ≡ readCall (now (file .entry)) (now (resources .entry)) (now (tasks .entry)) ⌝ }
+{
+    let r = take_plan(file, resources.len(), tasks.len());
+    let first = r.resources;
+    let listed = r.listed;
+    lists::store_resources(resources, first, listed);
+    let list = r.tasks;
+    let stored = r.stored;
+    lists::store_tasks(tasks, list, stored);
+    r.answer
+}
