@@ -1,4 +1,5 @@
 -- The file is read into rows of our own, where its plan stands.
+use native.Mathlib.Omega.{arith}
 use mathlib.Core.Path.{sym, subst}
 use Rattle.rows.specs.View.{resourcesOf, tasksOf}
 use Rattle.lent.specs.Calls.{Takes}
@@ -14,7 +15,7 @@ slice-aggregate-read-plan-2 : tie.Need-slice-aggregate-read-plan-2
 slice-aggregate-read-plan-2 c = search needs
 
 read-plan-requires : tie.Need-read-plan-requires
-read-plan-requires c κs = search needs
+read-plan-requires c κs = (omega arith, λ n few room. omega (arith, few))
 
 slice-aggregate-out-of-rows : tie.Need-slice-aggregate-out-of-rows
 slice-aggregate-out-of-rows c = search needs

@@ -68,7 +68,7 @@ slice-aggregate-read-plan-2 : tie.Need-slice-aggregate-read-plan-2
 slice-aggregate-read-plan-2 c = search needs
 
 read-plan-requires : tie.Need-read-plan-requires
-read-plan-requires c κs = search needs
+read-plan-requires c κs = (omega arith, λ n few room. omega (arith, few))
 
 enum-known-answer : tie.Need-enum-known-answer
 enum-known-answer c = search needs

@@ -1,6 +1,6 @@
 -- The call's answer is the page's: a refusal's line, or the settled plan's lines.
 use native.Mathlib.Omega.{arith}
-use mathlib.Core.Path.{_≡_, sym, ap, _∙_}
+use mathlib.Core.Path.{_≡_, refl, sym, ap, _∙_}
 use mathlib.Core.List.{List}
 use Prim.Native.Nat.{_≤_}
 use lib.ListN.{length}
@@ -15,6 +15,7 @@ use Rattle.engine.specs.Answers.{resultOf}
 use Rattle.text.proofs.Texts.{put-is, put-wider}
 use Rattle.report.specs.Report.{resultText}
 use borrow.Author.Needs.{needs}
+use Rattle.engine.proofs.Room.{roomy}
 use Rattle.report.proofs.report_plan.Statement.{statement}
 use Rattle.report.proofs.report_plan.Tie as tie
 
@@ -49,7 +50,9 @@ slice-aggregate-worked-3 : tie.Need-slice-aggregate-worked-3
 slice-aggregate-worked-3 c = search needs
 
 worked-requires : tie.Need-worked-requires
-worked-requires c κs = search needs
+worked-requires c κs =
+    let b = c .before .before .before .before .before in
+    ((b .pre .0, refl), roomy (qs b) (b .args .s .now) (b .pre .0) _ _ _ (omega arith) (omega arith) (omega arith))
 
 enum-known-answer : tie.Need-enum-known-answer
 enum-known-answer c = search needs
