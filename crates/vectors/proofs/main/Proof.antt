@@ -1,0 +1,45 @@
+-- The measure is the number of files still allowed; nothing has to hold from file to file.
+use native.Mathlib.Omega.{arith}
+use Rattle.vectors.proofs.main.Statement.{statement}
+use Rattle.vectors.proofs.main.Tie as tie
+
+abbrev Inv-loop : tie.InvT-loop
+Inv-loop files₀ files = Unit {0}
+
+abbrev μ-loop : tie.MeasureT-loop
+μ-loop files₀ files = files
+
+loop-holds : tie.Need-loop-holds Inv-loop μ-loop
+loop-holds c = tt
+
+answer-next-requires : tie.Need-answer-next-requires Inv-loop μ-loop
+answer-next-requires c κs = tt
+
+sub-files : tie.Need-sub-files Inv-loop μ-loop
+sub-files c = omega arith
+
+loop-less : tie.Need-loop-less Inv-loop μ-loop
+loop-less c = omega arith
+
+loop-again : tie.Need-loop-again Inv-loop μ-loop
+loop-again c = tt
+
+returns : tie.Need-returns Inv-loop μ-loop
+returns c = tt
+
+returns-2 : tie.Need-returns-2 Inv-loop μ-loop
+returns-2 c = tt
+
+pub main-spec : {M : Type 1} → statement M
+main-spec =
+    tie.close
+    (tie.spec
+    Inv-loop
+    μ-loop
+    loop-holds
+    answer-next-requires
+    sub-files
+    loop-less
+    loop-again
+    returns
+    returns-2)
