@@ -2,13 +2,13 @@
 use mathlib.Core.Path.{_≡_, refl, sym, ap, _∙_, subst}
 use mathlib.Core.Bool.{Bool, true, false}
 use mathlib.Core.List.{List, [], _∷_}
-use Prim.Native.Nat.{ℕ, zero, suc, _+_, _<_}
+use Prim.Native.Nat.{ℕ, zero, suc, _+_, _≤_, _<_}
 use native.Mathlib.Nat.{not-suc-le-zero, le-of-suc-le-suc}
 use native.Mathlib.Omega.{arith}
 use lib.Dec.{eqb}
 use lib.IntN.{ℤ}
 use lib.ListN.{length, drop, getD}
-use lib.Seq.{drop-drop, set-getD}
+use lib.Seq.{drop-drop}
 use Rattle.integers.specs.Tests.{if, any}
 use Rattle.integers.proofs.Tests.{clash, false-in}
 use Rattle.plan.specs.declared.Task.{Task}
@@ -19,7 +19,8 @@ use Rattle.plan.proofs.Sets.{eqb-true}
 use Rattle.rules.specs.Balance.{Outcome, each}
 use Rattle.rules.specs.Balance.Outcome.{NoPlan, Plan}
 use Rattle.rules.specs.Step.{shortfall, narrowed, listedDays, atLeastStep}
-use Rattle.rules.proofs.Walk.{eachLeft, each-kept}
+use Rattle.rules.proofs.Quiet.{narrowed-quiet}
+use Rattle.rules.proofs.Walk.{eachLeft, each-start, each-same, each-end}
 use Rattle.rows.specs.View.{noTask}
 use Rattle.rows.specs.Fits.{AllFit}
 use Rattle.rows.proofs.Fits.{bounded-in}
@@ -29,7 +30,7 @@ use Rattle.stretches.specs.Tells.{Tells}
 use Rattle.narrow.specs.Ready.{Among}
 use Rattle.narrow.specs.Ready.Among.{head, tail}
 use Rattle.narrow.proofs.Others.{fit-out, possible-out}
-use Rattle.narrow.proofs.Page.{still-page}
+use Rattle.narrow.proofs.Page.{still-page, live-fit}
 use Rattle.step.specs.Asks.{Told}
 
 among-at : (k : ℕ) (ts : List Task) → k < length ts → Among (getD ts k noTask) ts
@@ -60,13 +61,34 @@ away-kept r ts fit i inside limit e =
     (λ j p. clash (has (t .set) r) (possible-out r j t p .among) e))
 
 -- and the list is as it was
-pub left-same : (f : Task → Narrowed) (us : List Task) (i : ℕ) → i < length us → f (getD us i noTask) ≡ Kept (getD us i noTask) → eachLeft f (i + 1) us ≡ eachLeft f i us
-left-same f us i h e =
-    subst (λ (x : List Task). eachLeft f (i + 1) x ≡ eachLeft f i us) (set-getD us i noTask) (each-kept f noTask (getD us i noTask) i us h e)
-
 pub begun-same : (ts : List Task) (i : ℕ) (us : List Task) (touched : ℕ) → Begun ts i us touched → Begun ts (i + 1) us touched
 begun-same ts i us touched w =
     record { size = w .size; rest = sym (drop-drop 1 i us) ∙ ap (drop 1) (w .rest) ∙ drop-drop 1 i ts; noted = w .noted }
+
+-- where every task stays, so does the list
+all-kept : (f : Task → Narrowed) (ts : List Task) → ((k : ℕ) → k < length ts → f (getD ts k noTask) ≡ Kept (getD ts k noTask)) → (n : ℕ) → n ≤ length ts → eachLeft f n ts ≡ each f ts
+all-kept f ts h zero l = each-start f ts
+all-kept f ts h (suc n) l =
+    let m : n ≤ length ts = omega arith in
+    subst (λ (k : ℕ). eachLeft f k ts ≡ each f ts) (plus-one n) (each-same f noTask n ts l (h n l) ∙ all-kept f ts h n m)
+  where
+    plus-one : (k : ℕ) → k + 1 ≡ suc k
+    plus-one k = omega arith
+
+-- no stretch is left: no rule touches any task
+pub none-left : (r : ℕ) (limit : ℤ → ℤ) (ts : List Task) → AllFit 64 ts → ((k : ℕ) → k < length ts → Tells r limit ts (getD ts k noTask) [])
+    → each (narrowed r limit ts (listedDays ts)) ts ≡ Plan ts
+unfolding any
+none-left r limit ts fit tells =
+    let f = narrowed r limit ts (listedDays ts) in
+    sym (all-kept f ts stays (length ts) (omega arith)) ∙ each-end f (length ts) ts (omega arith)
+  where
+    stays : (k : ℕ) → k < length ts → narrowed r limit ts (listedDays ts) (getD ts k noTask) ≡ Kept (getD ts k noTask)
+    stays k l =
+        let t = getD ts k noTask in
+        narrowed-quiet r limit ts (listedDays ts) t
+        (λ i. let q = tells k l .quiet i refl in record { need = q .unneeded; bar = q .unbarred; height = q .unlifted })
+        (live-fit t (fit-out t (bounded-in t (fit k l .ranges))) (not-empty (fit k l .some)))
 
 -- with no day short, the step takes each task by itself
 pub step-enough : (r : ℕ) (limit : ℤ → ℤ) (ts : List Task) → any (shortfall r limit ts) (listedDays ts) ≡ false → atLeastStep r limit ts ≡ each (narrowed r limit ts (listedDays ts)) ts

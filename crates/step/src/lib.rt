@@ -47,6 +47,7 @@ fn narrow_all(s: &mut [[i64; 9]], r: u64, ss: &[[i64; 4]]) -> Stepped
     }
 }
 
+// A shortfall is no plan; where no stretch was worth keeping, no rule touches a task.
 pub fn step(
     s: &mut [[i64; 9]],
     r: u64,
@@ -68,5 +69,11 @@ pub fn step(
         };
     }
     let n = p.stretches;
+    if n == 0 {
+        return Stepped {
+            ok: true,
+            touched: 0,
+        };
+    }
     narrow_all(s, r, &ss[..n])
 }

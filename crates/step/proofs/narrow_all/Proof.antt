@@ -15,7 +15,7 @@ use Rattle.plan.specs.declared.Narrowed.the-variants.{Kept, RanOut}
 use Rattle.plan.specs.Sets.{has}
 use Rattle.rules.specs.Balance.{each}
 use Rattle.rules.specs.Step.{narrowed, listedDays}
-use Rattle.rules.proofs.Walk.{eachLeft, each-start, each-kept, each-out, each-end}
+use Rattle.rules.proofs.Walk.{eachLeft, each-start, each-kept, each-same, each-out, each-end}
 use Rattle.rows.specs.View.{tasksOf, noTask}
 use Rattle.rows.specs.Fits.{Bounded}
 use Rattle.rows.proofs.View.{length-tasks}
@@ -24,7 +24,7 @@ use Rattle.rows.proofs.Walk.{Begun, begun-start, begun-next, begun-more}
 use Rattle.stretches.specs.declared.Stretch.{Stretch}
 use Rattle.stretches.specs.View.{stretchesOf}
 use Rattle.step.specs.Asks.{Told}
-use Rattle.step.proofs.Listed.{next-narrowed, away-kept, left-same, begun-same}
+use Rattle.step.proofs.Listed.{next-narrowed, away-kept, begun-same}
 use Rattle.step.proofs.narrow_all.Statement.{statement}
 use Rattle.step.proofs.narrow_all.Tie as tie
 
@@ -143,7 +143,7 @@ loop-again c =
       rw (f, g) (begun-same ts i us (l .loop .touched) (l .loop .inv .2)),
       λ limit told.
           rw f
-          (left-same (narrowed r limit ts (listedDays ts)) us i h (rw n (away-kept r ts (b .pre .1) i inside limit e)) ∙ l .loop .inv .3 limit told),
+          (each-same (narrowed r limit ts (listedDays ts)) noTask i us h (rw n (away-kept r ts (b .pre .1) i inside limit e)) ∙ l .loop .inv .3 limit told),
     ))
     (c .if1 .came)
 

@@ -2,7 +2,7 @@
 use native.Mathlib.Omega.{arith}
 use mathlib.Core.Path.{_≡_, refl, sym, ap, _∙_, subst}
 use mathlib.Core.Bool.{Bool, true, false}
-use mathlib.Core.List.{List}
+use mathlib.Core.List.{List, []}
 use Prim.Native.Nat.{ℕ, _≤_, _<_}
 use lib.IntN.{ℤ}
 use lib.ListN.{length, take, getD}
@@ -13,6 +13,7 @@ use Rattle.plan.specs.declared.Task.{Task}
 use Rattle.rules.specs.Step.{shortfall, listedDays}
 use Rattle.rows.specs.View.{tasksOf, noTask}
 use Rattle.rows.proofs.View.{length-tasks}
+use Rattle.rows.proofs.Changes.{touched-self}
 use Rattle.rows.proofs.Fits.{bounded-in, limit-out}
 use Rattle.stretches.specs.declared.Stretch.{Stretch}
 use Rattle.stretches.specs.View.{stretchesOf}
@@ -20,7 +21,7 @@ use Rattle.stretches.specs.Tells.{Tells}
 use Rattle.stretches.proofs.View.{stretches-take}
 use Rattle.profile.specs.Promise.{Lent, Profile}
 use Rattle.step.specs.Asks.{Told}
-use Rattle.step.proofs.Listed.{step-enough, step-short}
+use Rattle.step.proofs.Listed.{none-left, step-enough, step-short}
 use borrow.Author.Needs.{needs}
 use Rattle.step.proofs.step.Statement.{statement}
 use Rattle.step.proofs.step.Tie as tie
@@ -62,15 +63,6 @@ returns c =
       λ h. clash false h refl,
     )
 
-slice-reshare-prefix-narrow-all : tie.Need-slice-reshare-prefix-narrow-all
-slice-reshare-prefix-narrow-all c = search needs
-
-slice-aggregate-narrow-all : tie.Need-slice-aggregate-narrow-all
-slice-aggregate-narrow-all c = sym (length-take-le (c .before .before .before .before .before .before .before .before .profile .result .stretches) _ (c .before .before .before .before .before .before .before .before .profile .ensures .0))
-
-narrow-all-requires : tie.Need-narrow-all-requires
-narrow-all-requires c κs = search needs
-
 same-length-5 : tie.Need-same-length-5
 same-length-5 c = search needs
 
@@ -85,15 +77,50 @@ same-length-8 c = search needs
 
 returns-2 : tie.Need-returns-2
 returns-2 c =
-    let d = c .before .before .before .before .before .before .before .before .before .before in
-    let b = c .before .before .before .before .before .before .before .before .before .before .before .before .before .before .before .before .before in
+    let d = c .before .before .before .before .before .before .before in
+    let b = c .before .before .before .before .before .before .before .before .before .before .before .before .before .before in
+    let r = b .args .r in
+    let limit : ℤ → ℤ = λ i. b .args .limit .0 in
+    let ts = tasksOf (b .args .s .now) in
+    let ss = stretchesOf (d .profile .last .1 .1 .1 .1 .1 .0) in
+    let q = d .profile .ensures .1 in
+    let enough : any (shortfall r limit ts) (listedDays ts) ≡ false = sym (q .short-is) ∙ c .before .if1 .left in
+    let tells : (k : ℕ) → k < length ts → Tells r limit ts (getD ts k noTask) [] =
+    λ k l. subst (λ (n : ℕ). Tells r limit ts (getD ts k noTask) (take n ss)) (c .if2 .taken) (q .tells k l) in
+    (sym (step-enough r limit ts enough ∙ none-left r limit ts (b .pre .0 .fit) tells), λ h. sym (touched-self ts))
+
+slice-reshare-prefix-narrow-all : tie.Need-slice-reshare-prefix-narrow-all
+slice-reshare-prefix-narrow-all c = search needs
+
+slice-aggregate-narrow-all : tie.Need-slice-aggregate-narrow-all
+slice-aggregate-narrow-all c = sym (length-take-le (c .before .before .before .before .before .before .before .before .before .profile .result .stretches) _ (c .before .before .before .before .before .before .before .before .before .profile .ensures .0))
+
+narrow-all-requires : tie.Need-narrow-all-requires
+narrow-all-requires c κs = search needs
+
+same-length-9 : tie.Need-same-length-9
+same-length-9 c = search needs
+
+same-length-10 : tie.Need-same-length-10
+same-length-10 c = search needs
+
+same-length-11 : tie.Need-same-length-11
+same-length-11 c = search needs
+
+same-length-12 : tie.Need-same-length-12
+same-length-12 c = search needs
+
+returns-3 : tie.Need-returns-3
+returns-3 c =
+    let d = c .before .before .before .before .before .before .before .before .before .before .before in
+    let b = c .before .before .before .before .before .before .before .before .before .before .before .before .before .before .before .before .before .before in
     let r = b .args .r in
     let limit : ℤ → ℤ = λ i. b .args .limit .0 in
     let ts = tasksOf (b .args .s .now) in
     let n = d .profile .result .stretches in
     let ss = d .profile .last .1 .1 .1 .1 .1 .0 in
     let q = d .profile .ensures .1 in
-    let enough : any (shortfall r limit ts) (listedDays ts) ≡ false = sym (q .short-is) ∙ c .before .before .before .before .if1 .left in
+    let enough : any (shortfall r limit ts) (listedDays ts) ≡ false = sym (q .short-is) ∙ c .before .before .before .before .before .if1 .left in
     let told : Told r limit ts (stretchesOf (take n ss)) =
     record { tells = λ k l. subst (Tells r limit ts (getD ts k noTask)) (sym (stretches-take n ss)) (q .tells k l); enough = enough } in
     (c .before .narrow-all .ensures .0 limit told ∙ sym (step-enough r limit ts enough), c .before .narrow-all .ensures .1)
@@ -108,11 +135,16 @@ step-spec =
     same-length-3
     same-length-4
     returns
-    slice-reshare-prefix-narrow-all
-    slice-aggregate-narrow-all
-    narrow-all-requires
     same-length-5
     same-length-6
     same-length-7
     same-length-8
-    returns-2)
+    returns-2
+    slice-reshare-prefix-narrow-all
+    slice-aggregate-narrow-all
+    narrow-all-requires
+    same-length-9
+    same-length-10
+    same-length-11
+    same-length-12
+    returns-3)
