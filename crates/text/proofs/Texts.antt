@@ -1,8 +1,8 @@
 -- Texts one after another; digits one by one; the lines of tasks, half of them put.
 use mathlib.Core.Path.{_≡_, refl, sym, ap, subst, _∙_}
 use mathlib.Core.Bool.{Bool, true, false}
-use mathlib.Core.List.{List, [], _∷_, _++_, append-nil}
-use Prim.Native.Nat.{ℕ, zero, suc, _+_, _-_, _*_, _/_, _%_, _≤_, _<_}
+use mathlib.Core.List.{List, [], _∷_, _++_}
+use Prim.Native.Nat.{ℕ, suc, _+_, _-_, _*_, _/_, _%_, _≤_, _<_}
 use native.Mathlib.Omega.{arith}
 use native.Mathlib.Nat.{add-zero, not-suc-le-zero}
 use native.Mathlib.Numerals.{add-one}
@@ -14,11 +14,11 @@ use lib.Dec.{T, ltb, lt→ltb}
 use borrow.Author.Tests.{ltb-true}
 use Rattle.integers.proofs.Tests.{clash, false-in}
 use Rattle.integers.proofs.Z.{z, -z}
-use lib.ListN.{length, getD, drop, set, length-append, drop-of-length-le}
+use lib.ListN.{length, getD, drop, length-append, drop-of-length-le}
 use lib.Seq.{sets, length-sets, drop-cons}
 use Rattle.plan.specs.declared.Task.{Task}
 use Rattle.file.proofs.Stores.{sets-append}
-use Rattle.text.specs.Text.{Put, lastDigits, digits, signed, space, rangeText, taskLine, taskLines, mostLine}
+use Rattle.text.specs.Text.{Put, lastDigits, digits, signed, space, rangeText, taskLine, taskLines}
 
 -- ---- texts
 pub put-none : (out : List ℕ) (at : ℕ) → Put out at [] 0 out at
@@ -142,9 +142,6 @@ module _ (ts : List Task) (out : List ℕ) (from : ℕ) where
   lines-start = record { upto = omega arith; room = refl; near = omega arith; still = refl; count = refl }
 
   module _ (d : Task) {i at past : ℕ} {now later : List ℕ} (r : Lines i at now) (h : i < length ts) (p : Put now at (taskLine i (getD ts i d)) 218 later past) where
-    rest : List ℕ
-    rest = taskLines (suc i) (drop (suc i) ts)
-
     step : taskLines i (drop i ts) ≡ taskLine i (getD ts i d) ++ taskLines (suc i) (drop (suc i) ts)
     unfolding taskLines
     step = ap (taskLines i) (drop-cons ts i d h)

@@ -1,11 +1,11 @@
 // The planning program's lines, put into what is lent: each function answers the place past its text.
 ghost use mathlib.Core.Path.{_≡_};
-ghost use mathlib.Core.List.{List, [], _∷_, _++_};
+ghost use mathlib.Core.List.{[], _∷_, _++_};
 ghost use Prim.Native.Nat.{_+_, _*_, _≤_, _<_};
 ghost use lib.ListN.{length};
 ghost use lib.Seq.{sets};
 ghost use Rattle.rows.specs.View.{tasksOf};
-ghost use Rattle.text.specs.Text.{lastDigits, digits, signed, space, rangeText, taskLine, taskLines, settledWord, refusedWord, settledLine, refusedLine, Put, mostLine};
+ghost use Rattle.text.specs.Text.{lastDigits, signed, space, rangeText, taskLine, taskLines, settledWord, refusedWord, settledLine, refusedLine, Put, mostLine};
 use plan::PowerSpan;
 use plan::Refusal;
 use plan::Span;

@@ -3,10 +3,10 @@ use native.Mathlib.Omega.{arith}
 use mathlib.Core.Path.{_≡_, ap}
 use mathlib.Core.Bool.{true}
 use Prim.Native.Nat.{ℕ, _+_}
-use lib.IntN.{ℤ, pos, negsuc, _-ℤ_, natAbs}
+use lib.IntN.{pos, negsuc, _-ℤ_, natAbs}
 use lib.Signed.{ltZ}
 use mir.Syntax.{w64}
-use mir.Val.{Fits, SFits, toZ, ofZ}
+use mir.Val.{Fits, toZ, ofZ}
 use mir.Facts.{toZ-ofZ}
 use Rattle.text.proofs.Texts.{beyond, beyond-is, beyond-fits, beyond-more, casts, put-below, put-above}
 use borrow.Author.Needs.{needs}
