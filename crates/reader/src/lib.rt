@@ -29,5 +29,8 @@ pub fn next<'a>(r: Reader<'a>) -> Record
 pub fn past<'a>(r: Reader<'a>, c: Cursor) -> Reader<'a>
     ensures { λ x. ⌜ (x .file ≡ r .entry .file) × (x .at ≡ c .at) ⌝ }
 {
-    Reader { file: r.file, at: c.at }
+    Reader {
+        file: r.file,
+        at: c.at,
+    }
 }
