@@ -1,9 +1,7 @@
--- The paper's number and place for each refusal, and the paper's number for each value that can run out.
+-- The page's number and place for each refusal.
 use Prim.Native.Nat.{ℕ}
 use Rattle.plan.specs.declared.Refusal.{Refusal}
 use Rattle.plan.specs.declared.Refusal.the-variants.{TooManyTasks, ResourceCount, RepeatedIdentifier, LimitOutside, RangeOutside, SetOutside, NoPlan, WrongMark, CutShort, BufferShort, ListShort, NoSuchResource}
-use Rattle.plan.specs.declared.Value.{Value}
-use Rattle.plan.specs.declared.Value.the-variants.{Origin, Duration, End, Height, Set}
 
 -- "Numbered refusals", the first column
 abbrev pub number : Refusal → ℕ
@@ -34,11 +32,3 @@ place (CutShort k) = k
 place BufferShort = 0
 place ListShort = 0
 place NoSuchResource = 0
-
--- a value that ran out, in the order in which they are taken
-abbrev pub valueNumber : Value → ℕ
-valueNumber Origin = 0
-valueNumber Duration = 1
-valueNumber End = 2
-valueNumber Height = 3
-valueNumber Set = 4

@@ -11,7 +11,7 @@ ghost use mir.Val.{SFits};
 ghost use Rattle.integers.specs.Whole.{larger, smaller};
 ghost use Rattle.plan.specs.Days.{day, dayLow, dayHigh, durationLow, durationHigh, cutBelow, cutAbove, cutTo, emptySpan, spanFits};
 ghost use Rattle.plan.specs.Powers.{power, powerLow, powerHigh, raised, emptyPowers, powersFit, powerFits, turned};
-ghost use Rattle.plan.specs.Refusals.{number, place, valueNumber};
+ghost use Rattle.plan.specs.Refusals.{number, place};
 ghost use Rattle.plan.specs.Sets.{has, only, without};
 
 // A day number, or a number of days.

@@ -17,12 +17,15 @@ slice-aggregate-worked-3 c = search needs
 
 worked-requires : tie.Need-worked-requires
 worked-requires c κs =
-    let start = c .before .before .before .before .before in
+    let start = c .before .before .before .before in
     (start .pre, roomy (resourcesOf (start .args .q .now)) (start .args .s .now) (start .pre .0) _ _ _ (omega arith) (omega arith) (omega arith))
+
+same-length : tie.Need-same-length
+same-length c = search needs
 
 returns : tie.Need-returns
 returns c = search needs
 
 pub work-rows-spec : {M : Type 1} → statement M
 work-rows-spec =
-    tie.close (tie.spec slice-aggregate-worked slice-aggregate-worked-2 slice-aggregate-worked-3 worked-requires returns)
+    tie.close (tie.spec slice-aggregate-worked slice-aggregate-worked-2 slice-aggregate-worked-3 worked-requires same-length returns)
