@@ -1,4 +1,4 @@
-/* The stack and the time that settling each plan file takes: its thread's stack is painted first, and looked at afterwards. */
+/* The stack that settling each plan file takes (its thread's stack is painted first, and looked at afterwards), and the time of each call. */
 #define _GNU_SOURCE
 #include "../include/gristwaltz.h"
 #include <pthread.h>
@@ -13,6 +13,7 @@ struct work {
     uint8_t file[9382], out[9382];
     size_t length;
     unsigned calls;
+    char call;
     uint64_t answer;
     double microseconds;
 };
@@ -23,9 +24,14 @@ static double now(void) {
     return (double)t.tv_sec * 1e6 + (double)t.tv_nsec / 1e3;
 }
 
-static void *settle(void *given) {
+static void *work(void *given) {
     struct work *w = given;
-    for (unsigned k = 0; k < w->calls; k++) w->answer = gristwaltz_settle(w->file, w->length, w->out, sizeof w->out);
+    for (unsigned k = 0; k < w->calls; k++) switch (w->call) {
+        case 'c': w->answer = gristwaltz_check(w->file, w->length); break;
+        case 'b': w->answer = gristwaltz_balance(w->file, w->length, w->out, sizeof w->out); break;
+        case 'r': w->answer = gristwaltz_resource_step(w->file, w->length, 0, w->out, sizeof w->out); break;
+        default: w->answer = gristwaltz_settle(w->file, w->length, w->out, sizeof w->out);
+        }
     return NULL;
 }
 
@@ -40,7 +46,7 @@ static size_t touched(struct work *w, unsigned calls) {
     pthread_attr_setstack(&attributes, stack, STACK);
     w->calls = calls;
     double start = now();
-    if (pthread_create(&thread, &attributes, settle, w)) exit(2);
+    if (pthread_create(&thread, &attributes, work, w)) exit(2);
     pthread_join(thread, NULL);
     w->microseconds = now() - start;
     size_t clean = 0;
@@ -49,19 +55,32 @@ static size_t touched(struct work *w, unsigned calls) {
     return STACK - clean;
 }
 
+/* The best of a few rounds, in microseconds a call. */
+static double time_of(struct work *w, char call) {
+    w->call = call;
+    touched(w, 1);
+    unsigned calls = w->microseconds < 300 ? 5000 : 10;
+    double best = 1e18;
+    for (int round = 0; round < 5; round++) {
+        touched(w, calls);
+        if (w->microseconds < best) best = w->microseconds;
+    }
+    return best / calls;
+}
+
 int main(int count, char **names) {
     static struct work w;
+    printf("%-10s %6s %8s %7s %7s   microseconds: %8s %8s %8s %8s\n", "plan", "bytes", "refusal", "passes", "stack", "check", "balance", "step", "settle");
     for (int k = 1; k < count; k++) {
         FILE *f = fopen(names[k], "rb");
         if (!f) return 2;
         w.length = fread(w.file, 1, sizeof w.file, f);
         fclose(f);
-        size_t none = touched(&w, 0), stack = touched(&w, 1) - none;
-        unsigned calls = w.microseconds < 1000 ? 2000 : 5;
-        touched(&w, calls);
         const char *name = strrchr(names[k], '/');
-        printf("%-12s %5zu bytes  refusal %u  passes %5u  stack %6zu bytes  %10.1f microseconds\n", name ? name + 1 : names[k], w.length,
-               gristwaltz_refusal(w.answer), gristwaltz_passes(w.answer), stack, w.microseconds / calls);
+        double check = time_of(&w, 'c'), balance = time_of(&w, 'b'), step = time_of(&w, 'r'), settle = time_of(&w, 's');
+        size_t none = touched(&w, 0), stack = touched(&w, 1) - none;
+        printf("%-10s %6zu %8u %7u %7zu                 %8.2f %8.2f %8.2f %8.2f\n", name ? name + 1 : names[k], w.length,
+               gristwaltz_refusal(w.answer), gristwaltz_passes(w.answer), stack, check, balance, step, settle);
     }
     return 0;
 }
