@@ -12,8 +12,8 @@ use Rattle.integers.proofs.Tests.{if-case}
 use Rattle.plan.specs.declared.Task.{Task}
 use Rattle.plan.specs.Days.{cutTo, cutBelow, cutAbove}
 use Rattle.rules.specs.Calls.{rangesFit}
-use Rattle.narrow.specs.declared.Days.{Days}
-use Rattle.narrow.specs.Searches.{Between, Dated, Near, Close, Short}
+use Rattle.searches.specs.declared.Days.{Days}
+use Rattle.searches.specs.Searches.{Between, Dated, Near, Close, Short}
 use Rattle.narrow.specs.Ready.{possibleDays, withNeeds}
 use Rattle.narrow.proofs.Others.{fit-out}
 

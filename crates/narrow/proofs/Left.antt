@@ -17,9 +17,9 @@ use Rattle.plan.specs.Days.{daysOf, cutTo, cutBelow, cutAbove}
 use Rattle.plan.specs.Sets.{only}
 use Rattle.rules.specs.Step.{possible, needed, barred, shut, keepsOrigin, keepsDuration, keepsEnd, listedDays}
 use Rattle.rules.proofs.Days.{In, every-day}
-use Rattle.narrow.specs.declared.Days.{Days}
-use Rattle.narrow.specs.Searches.{Hit, Freed, room, TooLong, Longest, Needed}
-use Rattle.narrow.specs.Ready.{withNeeds, leftOf, earlier}
+use Rattle.searches.specs.declared.Days.{Days}
+use Rattle.searches.specs.Searches.{Hit, Freed, room, TooLong, Longest, Needed, earlier}
+use Rattle.narrow.specs.Ready.{withNeeds, leftOf}
 use Rattle.narrow.proofs.Others.{barred-is, needed-is}
 
 -- ---- what a test leaves of a range

@@ -24,14 +24,14 @@ use Rattle.rules.proofs.Live.{Live}
 use Rattle.rules.proofs.Quiet.{narrowed-quiet}
 use Rattle.stretches.specs.declared.Stretch.{Stretch}
 use Rattle.stretches.specs.Tells.{Tells}
-use Rattle.narrow.specs.declared.Days.{Days}
-use Rattle.narrow.specs.Searches.{Freed, Longest, Needed, Least}
-use Rattle.narrow.specs.Ready.{runningDays, under, withNeeds, NeedsTold, Lifted, Still, finished, earlier}
+use Rattle.searches.specs.declared.Days.{Days}
+use Rattle.searches.specs.Searches.{Freed, Longest, Needed, Least, earlier}
+use Rattle.searches.proofs.Long.{longest-none}
+use Rattle.searches.proofs.Freed.{freed-none}
+use Rattle.narrow.specs.Ready.{runningDays, under, withNeeds, NeedsTold, Lifted, Still, finished}
 use Rattle.narrow.proofs.Others.{Fit, possible-out, running-in, sure-in, sure-possible, barred-is, needed-is}
 use Rattle.narrow.proofs.Told.{needs-told, needs-none, unsure}
 use Rattle.narrow.proofs.Left.{Cut, needs-origin, needs-end, left-origin, left-duration, left-end}
-use Rattle.narrow.proofs.Long.{longest-none}
-use Rattle.narrow.proofs.Freed.{freed-none}
 use Rattle.narrow.proofs.Whole.{height-flat, set-alone, height-same, least-full, height-lifted, set-needed, set-kept, set-same, narrowed-is}
 
 -- needs change neither durations nor heights

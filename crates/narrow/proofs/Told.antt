@@ -6,10 +6,9 @@ use Prim.Native.Nat.{ℕ, zero, suc, _<_, suc-le-suc, zero-le}
 use native.Mathlib.Nat.{not-suc-le-zero, le-of-suc-le-suc}
 use lib.ListN.{length, getD}
 use lib.IntN.{ℤ, pos}
-use lib.Signed.{leZ, ltZ, _≤ℤ_, _<ℤ_}
+use lib.Signed.{ltZ}
 use Rattle.integers.specs.Tests.{and, any}
-use Rattle.integers.specs.Whole.{larger, smaller}
-use Rattle.integers.proofs.Z.{z, maxz, minz, leZ-in, ltZ-in}
+use Rattle.integers.proofs.Z.{z, ltZ-in}
 use Rattle.integers.proofs.Tests.{clash, by-cases, false-in, and-first, and-second, and-in, any-first, any-later, or-left, not-in, not-out}
 use Rattle.plan.specs.declared.Task.{Task}
 use Rattle.plan.specs.Sets.{has, only}
@@ -18,8 +17,8 @@ use Rattle.rules.proofs.Days.{In}
 use Rattle.stretches.specs.declared.Stretch.{Stretch}
 use Rattle.stretches.specs.View.{noStretch, onDay}
 use Rattle.stretches.specs.Tells.{slackOn, tightOn, Tells}
-use Rattle.narrow.specs.declared.Days.{Days}
-use Rattle.narrow.specs.Searches.{holds, partOf, barredPart, neededPart, OnPart, Found, Told}
+use Rattle.searches.specs.Searches.{holds, barredPart, neededPart, OnPart, Found, Told}
+use Rattle.searches.proofs.Parts.{part-out, part-in}
 use Rattle.narrow.specs.Ready.{possibleDays, runningDays, under, reachOf}
 use Rattle.narrow.proofs.Others.{Fit, possible-in, possible-out, sure-running, sure-in, only-has, barred-is, barred-in, barred-out, barred-sure, needed-is, needed-in, needed-out, no-short}
 
@@ -43,57 +42,6 @@ module _ {A : Type 0} (f : A → Bool) (d : A) where
   any-at k [] h e = absurd (not-suc-le-zero h)
   any-at zero (x ∷ xs) h e = any-first f x xs e
   any-at (suc k) (x ∷ xs) h e = any-later f x xs (any-at k xs (le-of-suc-le-suc h) e)
-
--- ---- the days of a stretch, and of its part
-pub record On (s : Stretch) (i : ℤ) : Type 0 where
-  pub late : s .from .0 ≤ℤ i
-  pub early : i <ℤ s .to .0
-
-pub on-out : (s : Stretch) (i : ℤ) → onDay i s ≡ true → On s i
-unfolding onDay
-on-out s i h =
-    let a : leZ (s .from .0) i ≡ true = and-first (leZ (s .from .0) i) (ltZ i (s .to .0)) h in
-    let b : ltZ i (s .to .0) ≡ true = and-second (leZ (s .from .0) i) (ltZ i (s .to .0)) h in
-    record { late = omega z; early = omega z }
-
-pub on-in : (s : Stretch) (i : ℤ) → s .from .0 ≤ℤ i → i <ℤ s .to .0 → onDay i s ≡ true
-unfolding onDay
-on-in s i h k = and-in (leZ (s .from .0) i) (ltZ i (s .to .0)) (leZ-in (s .from .0) i h) (ltZ-in i (s .to .0) k)
-
-pub record Holds (w : Days) (i : ℤ) : Type 0 where
-  pub late : w .from .0 ≤ℤ i
-  pub early : i <ℤ w .to .0
-
-pub holds-out : (w : Days) (i : ℤ) → holds w i ≡ true → Holds w i
-unfolding holds
-holds-out w i h =
-    let a : leZ (w .from .0) i ≡ true = and-first (leZ (w .from .0) i) (ltZ i (w .to .0)) h in
-    let b : ltZ i (w .to .0) ≡ true = and-second (leZ (w .from .0) i) (ltZ i (w .to .0)) h in
-    record { late = omega z; early = omega z }
-
-pub holds-in : (w : Days) (i : ℤ) → w .from .0 ≤ℤ i → i <ℤ w .to .0 → holds w i ≡ true
-unfolding holds
-holds-in w i h k = and-in (leZ (w .from .0) i) (ltZ i (w .to .0)) (leZ-in (w .from .0) i h) (ltZ-in i (w .to .0) k)
-
-pub record Inside (w : Days) (s : Stretch) (i : ℤ) : Type 0 where
-  pub on : onDay i s ≡ true
-  pub late : w .from .0 ≤ℤ i
-  pub early : i <ℤ w .to .0
-
-part-out : (w : Days) (s : Stretch) (b : Bool) (i : ℤ) → OnPart (partOf w s b) i → Inside w s i
-part-out w s b i o =
-    let x : larger (s .from .0) (w .from .0) ≤ℤ i = o .late in
-    let y : i <ℤ smaller (s .to .0) (w .to .0) = o .early in
-    record {
-      on = on-in s i (omega (z, maxz (s .from .0) (w .from .0))) (omega (z, minz (s .to .0) (w .to .0)));
-      late = omega (z, maxz (s .from .0) (w .from .0));
-      early = omega (z, minz (s .to .0) (w .to .0));
-    }
-
-part-in : (w : Days) (s : Stretch) (b : Bool) (i : ℤ) → b ≡ true → onDay i s ≡ true → w .from .0 ≤ℤ i → i <ℤ w .to .0 → OnPart (partOf w s b) i
-part-in w s b i h o k l =
-    let x = on-out s i o in
-    record { hit = h; late = omega (z, maxz (s .from .0) (w .from .0)); early = omega (z, minz (s .to .0) (w .to .0)) }
 
 pub holds-running : (r : ℕ) (t : Task) (i : ℤ) → holds (runningDays t) i ≡ running r i t
 unfolding holds running

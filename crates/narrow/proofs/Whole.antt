@@ -25,8 +25,8 @@ use Rattle.rules.proofs.Days.{In, listed, every-day}
 use Rattle.stretches.specs.declared.Stretch.{Stretch}
 use Rattle.stretches.specs.View.{noStretch, onDay}
 use Rattle.stretches.specs.Tells.{slackOn, Tells}
-use Rattle.narrow.specs.declared.Days.{Days}
-use Rattle.narrow.specs.Searches.{holds, Slack, Least, Needed}
+use Rattle.searches.specs.declared.Days.{Days}
+use Rattle.searches.specs.Searches.{holds, Slack, Least, Needed}
 use Rattle.narrow.specs.Ready.{runningDays, under, withNeeds, leftOf, finished}
 use Rattle.narrow.proofs.Others.{Fit, possible-out, running-possible, sure-only, sure-running, sure-in, sure-possible, barred-in, barred-out, needed-is, lifted-is, no-short}
 use Rattle.narrow.proofs.Told.{Place, any-place, holds-running, unsure, barred-place}

@@ -8,7 +8,7 @@ use lib.Dec.{eqb}
 use lib.ListN.{length, take, drop, getD, length-take, length-drop}
 use lib.Seq.{getD-take, getD-drop}
 use lib.IntN.{ℤ}
-use lib.Signed.{_≤ℤ_, _<ℤ_}
+use lib.Signed.{_≤ℤ_}
 use Rattle.integers.specs.Tests.{any}
 use Rattle.integers.proofs.Z.{z}
 use Rattle.integers.proofs.Tests.{clash, by-cases, false-in}
@@ -19,11 +19,11 @@ use Rattle.rules.proofs.Quiet as rules
 use Rattle.stretches.specs.declared.Stretch.{Stretch}
 use Rattle.stretches.specs.View.{noStretch, onDay}
 use Rattle.stretches.specs.Tells.{Quiet, Exact, Uncut, Ordered, Tells}
-use Rattle.narrow.specs.Searches.{Begun}
+use Rattle.searches.proofs.Parts.{on-out}
+use Rattle.searches.proofs.Order.{ordered-rest}
+use Rattle.searches.proofs.Up.{below-cases}
 use Rattle.narrow.proofs.Others.{Fit, possible-out, sure-possible, barred-is, needed-is}
-use Rattle.narrow.proofs.Told.{any-place, any-at, on-out}
-use Rattle.narrow.proofs.Order.{ordered-rest, ordered-full, ordered-apart}
-use Rattle.narrow.proofs.Up.{below-cases}
+use Rattle.narrow.proofs.Told.{any-place, any-at}
 use Rattle.narrow.proofs.Page.{live-fit}
 
 -- ---- a part in order
@@ -119,43 +119,3 @@ module _ (r : ℕ) (limit : ℤ → ℤ) (ts : List Task) (t : Task) (fit : Fit 
             let p = any-place (onDay i) noStretch ss g in
             quiet-off i (off (p .at) (p .inside) (λ x y. below-cases (p .at) a x (λ c. y (omega arith))) i (p .holds)))
             (λ g. tells .quiet i g)
-
--- ---- how many stretches begin before a day, by halves
-module _ (ss : List Stretch) (d : ℤ) where
-  pub begun-start : (n : ℕ) → length ss ≤ n → Begun ss d 0 n
-  begun-start n h = record { before = λ k l. absurd (no k l); after = λ k l m. absurd (none k l m) }
-    where
-      no : (k : ℕ) → k < 0 → ⊥
-      no k l = omega arith
-
-      none : (k : ℕ) → n ≤ k → k < length ss → ⊥
-      none k l m = omega arith
-
-  module _ (o : Ordered ss) (low high mid : ℕ) (b : Begun ss d low high) (l : mid < length ss) where
-    pub begun-low : (getD ss mid noStretch) .from .0 <ℤ d → Begun ss d (mid + 1) high
-    begun-low h = record { before = before; after = b .after }
-      where
-        before : (k : ℕ) → k < mid + 1 → k < length ss → (getD ss k noStretch) .from .0 <ℤ d
-        before k m n =
-            below-cases k mid
-            (λ c. let x = ordered-apart ss o k mid c l in let y = ordered-full ss o k n in omega z)
-            (λ c. let e : mid ≡ k = omega arith in subst (λ (j : ℕ). (getD ss j noStretch) .from .0 <ℤ d) e h)
-
-    pub begun-high : d ≤ℤ (getD ss mid noStretch) .from .0 → Begun ss d low mid
-    begun-high h = record { before = b .before; after = after }
-      where
-        after : (k : ℕ) → mid ≤ k → k < length ss → d ≤ℤ (getD ss k noStretch) .from .0
-        after k m n =
-            below-cases mid k
-            (λ c. let x = ordered-apart ss o mid k c n in let y = ordered-full ss o mid l in omega z)
-            (λ c. let e : mid ≡ k = omega arith in subst (λ (j : ℕ). d ≤ℤ (getD ss j noStretch) .from .0) e h)
-
-  pub begun-end : (low high : ℕ) → low ≡ high → Begun ss d low high → Begun ss d low low
-  begun-end low high e b = subst (λ (n : ℕ). Begun ss d low n) (sym e) b
-
-  -- of the stretches that begin before d, all but the last end by then
-  pub begun-past : Ordered ss → (n : ℕ) → n ≤ length ss → Begun ss d n n → (k : ℕ) → k < n - 1 → k < length ss → (getD ss k noStretch) .to .0 ≤ℤ d
-  begun-past o n m b k l h =
-      let x = ordered-apart ss o k (n - 1) l (omega arith) in
-      let y = b .before (n - 1) (omega arith) (omega arith) in
-      omega z

@@ -1,3 +1,2 @@
--- What a search over stretches gives, and what a task is once every rule has been applied.
-pub mod Searches
+-- What is asked of a task, and what it is once every rule has been applied.
 pub mod Ready

@@ -16,16 +16,16 @@ use Rattle.plan.specs.declared.PowerSpan.{PowerSpan}
 use Rattle.plan.specs.declared.Narrowed.{Narrowed}
 use Rattle.plan.specs.declared.Narrowed.the-variants.{Kept, RanOut}
 use Rattle.plan.specs.declared.Value.the-variants.{Origin, Duration, End, Set}
-use Rattle.plan.specs.Days.{day, daysOf, emptySpan, cutTo}
+use Rattle.plan.specs.Days.{daysOf, emptySpan, cutTo}
 use Rattle.plan.specs.Powers.{power}
 use Rattle.plan.specs.Sets.{only, without}
 use Rattle.rules.specs.Step.{shortfall, listedDays}
 use Rattle.rules.specs.Calls.{rangesFit}
 use Rattle.stretches.specs.declared.Stretch.{Stretch}
 use Rattle.stretches.specs.Tells.{Tells}
-use Rattle.narrow.specs.declared.Days.{Days}
-use Rattle.narrow.specs.declared.Reach.{Reach}
-use Rattle.narrow.specs.Searches.{neededPart, Told, Least}
+use Rattle.searches.specs.declared.Days.{Days}
+use Rattle.searches.specs.declared.Reach.{Reach}
+use Rattle.searches.specs.Searches.{neededPart, Told, Least}
 
 -- a place of a set, and a task that has passed the entry checks
 pub record Ready (r : ℕ) (t : Task) : Type 0 where
@@ -111,10 +111,3 @@ finished t =
     if (emptySpan (t .origin)) (RanOut Origin)
     (if (emptySpan (t .duration)) (RanOut Duration)
     (if (emptySpan (t .end)) (RanOut End) (if (eqb (t .set) 0) (RanOut Set) (Kept t))))
-
--- a range d days earlier: an end less a duration is an origin
-abbrev pub earlier : ℤ → Span → Span
-earlier d s = record { low = day (s .low .0 -ℤ d); high = day (s .high .0 -ℤ d) }
-
-abbrev pub later : ℤ → Span → Span
-later d s = record { low = day (s .low .0 +ℤ d); high = day (s .high .0 +ℤ d) }

@@ -7,8 +7,8 @@ use Rattle.integers.specs.Whole.{larger}
 use Rattle.integers.proofs.Z.{z}
 use Rattle.plan.specs.declared.Power.{Power}
 use Rattle.stretches.specs.View.{stretchesOf}
-use Rattle.narrow.specs.declared.Days.{Days}
-use Rattle.narrow.specs.Searches.{Least}
+use Rattle.searches.specs.declared.Days.{Days}
+use Rattle.searches.specs.Searches.{Least}
 use Rattle.narrow.specs.Ready.{runningDays}
 use Rattle.narrow.proofs.Fits.{fits-room, fits-lift}
 use borrow.Author.Needs.{needs}

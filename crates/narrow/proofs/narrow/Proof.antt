@@ -6,7 +6,7 @@ use Rattle.integers.proofs.Z.{z}
 use Rattle.integers.proofs.Tests.{clash}
 use Rattle.plan.specs.Sets.{has}
 use Rattle.stretches.specs.View.{stretchesOf}
-use Rattle.narrow.specs.declared.Days.{Days}
+use Rattle.searches.specs.declared.Days.{Days}
 use Rattle.narrow.proofs.Others.{fit-out, among-in, possible-out}
 use Rattle.narrow.proofs.Page.{still-page, fixed-page}
 use borrow.Author.Needs.{needs}

@@ -4,9 +4,8 @@ use lib.IntN.{pos}
 use Rattle.plan.specs.declared.Task.{Task}
 use Rattle.rules.specs.Step.{needed, shut}
 use Rattle.stretches.specs.View.{stretchesOf}
-use Rattle.narrow.specs.declared.Reach.{Reach}
-use Rattle.narrow.specs.Searches.{barredPart, Told, Dated, Freed, Longest}
-use Rattle.narrow.specs.Ready.{earlier}
+use Rattle.searches.specs.declared.Reach.{Reach}
+use Rattle.searches.specs.Searches.{barredPart, Told, Dated, Freed, Longest, earlier}
 use Rattle.narrow.proofs.Others.{fit-out, among-in, only-has}
 use Rattle.narrow.proofs.Told.{bars-told}
 use Rattle.narrow.proofs.Fits.{Kept, dated, short-least, needs-close}

@@ -6,8 +6,8 @@ use Rattle.plan.specs.declared.Task.{Task}
 use Rattle.plan.specs.declared.Power.{Power}
 use Rattle.rules.specs.Step.{needed}
 use Rattle.stretches.specs.View.{stretchesOf}
-use Rattle.narrow.specs.declared.Days.{Days}
-use Rattle.narrow.specs.Searches.{Least}
+use Rattle.searches.specs.declared.Days.{Days}
+use Rattle.searches.specs.Searches.{Least}
 use Rattle.narrow.specs.Ready.{runningDays, under, withNeeds, withoutHere}
 use Rattle.narrow.proofs.Others.{fit-out, among-in}
 use Rattle.narrow.proofs.Fits.{dated}

@@ -10,10 +10,11 @@ use Rattle.stretches.specs.declared.Stretch.{Stretch}
 use Rattle.stretches.specs.View.{stretchesOf, noStretch}
 use Rattle.stretches.specs.Tells.{Ordered, Tells}
 use Rattle.stretches.proofs.View.{length-stretches, stretches-take, stretches-drop}
-use Rattle.narrow.specs.declared.Days.{Days}
-use Rattle.narrow.specs.Searches.{Begun}
+use Rattle.searches.specs.declared.Days.{Days}
+use Rattle.searches.specs.Searches.{Begun}
+use Rattle.searches.proofs.Halves.{begun-past}
 use Rattle.narrow.proofs.Others.{fit-out}
-use Rattle.narrow.proofs.Window.{begun-past, part-tells, none-page}
+use Rattle.narrow.proofs.Window.{part-tells, none-page}
 use borrow.Author.Needs.{needs}
 use Rattle.narrow.proofs.narrow_window.Statement.{statement}
 use Rattle.narrow.proofs.narrow_window.Tie as tie

@@ -4,10 +4,10 @@ use mathlib.Core.Bool.{Bool, true, false}
 use lib.IntN.{ℤ, pos}
 use lib.Signed.{ltZ}
 use Rattle.stretches.specs.View.{stretchesOf}
-use Rattle.narrow.specs.declared.Days.{Days}
-use Rattle.narrow.specs.Searches.{neededPart, Told, Between, Dated, Needed}
+use Rattle.searches.specs.declared.Days.{Days}
+use Rattle.searches.specs.Searches.{neededPart, Told, Between, Dated, Needed}
+use Rattle.searches.proofs.Need.{between-start, needed-none}
 use Rattle.narrow.specs.Ready.{possibleDays}
-use Rattle.narrow.proofs.Need.{between-start, needed-none}
 use borrow.Author.Needs.{needs}
 use Rattle.narrow.proofs.needs_of.Statement.{statement}
 use Rattle.narrow.proofs.needs_of.Tie as tie

@@ -1,0 +1,2 @@
+-- What a search over stretches gives.
+pub mod Searches
