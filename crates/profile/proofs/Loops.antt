@@ -1,4 +1,4 @@
--- What one turn of each loop keeps: what has been written, joined to what the rest will write, is the answer.
+-- What one turn of the sweep keeps: the stretches written, joined to those that the keys left will make, are the answer.
 use mathlib.Core.Path.{_≡_, _∙_}
 use mathlib.Core.List.{List, [], _∷_, _++_}
 use Prim.Native.Nat.{ℕ, _+_, _*_, _≤_, _<_}
@@ -13,52 +13,16 @@ use mir.Val.{SFits}
 use Rattle.integers.proofs.Z.{z, +z}
 use Rattle.integers.proofs.Tests.{if-case}
 use Rattle.integers.proofs.Sums.{Near}
-use Rattle.plan.specs.declared.Task.{Task}
 use Rattle.plan.specs.Powers.{powerLow, powerHigh}
-use Rattle.plan.specs.Sets.{has}
 use Rattle.stretches.specs.declared.Stretch.{Stretch}
-use Rattle.profile.specs.declared.Common.{Common}
+use Rattle.events.specs.declared.Common.{Common}
+use Rattle.events.specs.Keys.{dayOf, powerOf, sureOf}
+use Rattle.events.specs.Laid.{Laid}
+use Rattle.events.proofs.Keys.{power-near, sure-near}
+use Rattle.events.proofs.Laid.{laid-more}
 use Rattle.profile.specs.declared.Level.{Level}
-use Rattle.profile.specs.Keys.{dayOf, powerOf, sureOf}
-use Rattle.profile.specs.Laid.{Laid}
-use Rattle.profile.specs.Events.{changeKeys, hopeful, surely, fixed, taskKeys, eventsOf, joined, keysOf, common}
 use Rattle.profile.specs.Sweep.{changed, stretchIn, worth, worthy, swept}
-use Rattle.profile.proofs.Keys.{power-near, sure-near}
-use Rattle.profile.proofs.Laid.{laid-more}
 
--- ---- events
-abbrev few : List ℕ → Type 0
-few l = length l ≤ 4
-
-pub events-few : (r : ℕ) (t : Task) → length (eventsOf r t) ≤ 4
-unfolding eventsOf taskKeys changeKeys
-events-few r t =
-    if-case few (has (t .set) r) _ _
-    (λ _.
-    if-case few (hopeful t) _ _
-    (λ _. if-case few (surely r t) _ _ (λ _. if-case few (fixed t) _ _ (λ _. omega arith) (λ _. omega arith)) (λ _. omega arith))
-    (λ _. if-case few (surely r t) _ _ (λ _. omega arith) (λ _. omega arith)))
-    (λ _. omega arith)
-
-module _ (r : ℕ) (d : Task) (ts : List Task) (i : ℕ) (h : i < length ts) where
-  -- the keys of task i behind those before it
-  pub keys-more : (k l : List ℕ) (n m : ℕ) → Laid k l n m (eventsOf r (getD ts i d)) → take m l ++ keysOf r (drop (i + 1) ts) ≡ take n k ++ keysOf r (drop i ts)
-  unfolding keysOf
-  keys-more k l n m p = laid-more k l n m (eventsOf r (getD ts i d)) (keysOf r (drop (i + 1) ts)) p ∙ rw (add-one, drop-cons ts i d h)
-
-  pub common-more : (c : Common) → common r (joined r c (getD ts i d)) (drop (i + 1) ts) ≡ common r c (drop i ts)
-  unfolding common
-  common-more c = rw (add-one, drop-cons ts i d h)
-
-pub keys-end : (r : ℕ) (ts : List Task) (i : ℕ) → length ts ≤ i → keysOf r (drop i ts) ≡ []
-unfolding keysOf
-keys-end r ts i h = rw (drop-of-length-le ts h)
-
-pub common-end : (r : ℕ) (c : Common) (ts : List Task) (i : ℕ) → length ts ≤ i → common r c (drop i ts) ≡ c
-unfolding common
-common-end r c ts i h = rw (drop-of-length-le ts h)
-
--- ---- stretches
 pub worthy-few : (c : Common) (t : Stretch) → length (worthy c t) ≤ 1
 worthy-few c t = if-case (λ l. length l ≤ 1) (worth c t) (t ∷ []) [] (λ _. omega arith) (λ _. omega arith)
 

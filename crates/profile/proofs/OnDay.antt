@@ -18,8 +18,8 @@ use Rattle.plan.proofs.Sets.{only-is, has-alone}
 use Rattle.rules.specs.Step.{possible, running, sure, hope, total, counts}
 use Rattle.rules.proofs.Days.{In}
 use Rattle.rules.proofs.Days.In.{head, tail}
-use Rattle.profile.proofs.Fit.{Fit}
-use Rattle.profile.proofs.Each.{Each}
+use Rattle.events.proofs.Fit.{Fit}
+use Rattle.events.proofs.Each.{Each}
 
 -- ---- a task on a day
 module _ (r : ℕ) (i : ℤ) (t : Task) where

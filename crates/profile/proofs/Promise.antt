@@ -26,18 +26,18 @@ use Rattle.sorting.proofs.Every.{every}
 use Rattle.stretches.specs.declared.Stretch.{Stretch}
 use Rattle.stretches.specs.View.{noStretch, onDay}
 use Rattle.stretches.specs.Tells.{big, slackOn, tightOn, Quiet, Exact, Uncut, Tells}
-use Rattle.profile.specs.declared.Common.{Common}
+use Rattle.events.specs.declared.Common.{Common}
+use Rattle.events.specs.Keys.{dayOf, powerOf, sureOf}
+use Rattle.events.specs.Events.{hopeful, surely, keysOf, barOf, liftOf, common, nobody, Fitting}
+use Rattle.events.proofs.Fit.{Fit, fit-is}
+use Rattle.events.proofs.Each.{Each, each-at, each-by, each-in, each-map, each-two, in-at, any-at}
+use Rattle.events.proofs.Adds.{upTo, sureOne, keys-power, keys-sure, counts-is}
+use Rattle.events.proofs.Covers.{Covers, common-over, common-covers, common-dated, keys-each, each-keys}
 use Rattle.profile.specs.declared.Level.{Level}
-use Rattle.profile.specs.Keys.{dayOf, powerOf, sureOf}
-use Rattle.profile.specs.Events.{hopeful, surely, keysOf, barOf, liftOf, common, nobody}
 use Rattle.profile.specs.Sweep.{level, tightIn, swept, Sweeps}
-use Rattle.profile.specs.Promise.{Fitting, Bounded, FirstShort, Profile}
-use Rattle.profile.proofs.Fit.{Fit, fit-is}
-use Rattle.profile.proofs.Each.{Each, each-at, each-by, each-in, each-map, each-two, in-at, any-at}
-use Rattle.profile.proofs.Adds.{upTo, sureOne, keys-power, keys-sure, counts-is}
+use Rattle.profile.specs.Promise.{Bounded, FirstShort, Profile}
 use Rattle.profile.proofs.OnDay.{possible-has, possible-first, possible-last, sure-possible, hope-positive, hope-sure, hope-none, counts-in, counts-out, total-near}
 use Rattle.profile.proofs.Spread.{levelOn, Told, Spread, on-first, on-last, on-in, chain-ordered, chain-rises, swept-spread}
-use Rattle.profile.proofs.Covers.{Covers, common-over, common-covers, common-dated, keys-each, each-keys}
 
 -- ---- keys in another order
 each-sorted : (p : ℕ → Bool) (xs ys : List ℕ) → ((g : ℕ → ℤ) → sumOf g ys ≡ sumOf g xs) → Each (λ k. p k ≡ true) xs → Each (λ k. p k ≡ true) ys

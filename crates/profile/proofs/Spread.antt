@@ -15,13 +15,13 @@ use Rattle.sorting.specs.Order.{RisesFrom}
 use Rattle.stretches.specs.declared.Stretch.{Stretch}
 use Rattle.stretches.specs.View.{noStretch, onDay}
 use Rattle.stretches.specs.Tells.{Ordered}
-use Rattle.profile.specs.declared.Common.{Common}
+use Rattle.events.specs.declared.Common.{Common}
+use Rattle.events.specs.Keys.{dayOf, powerOf, sureOf}
+use Rattle.events.proofs.Keys.{day-rises}
+use Rattle.events.proofs.Each.{Each, each-map}
+use Rattle.events.proofs.Adds.{upTo}
 use Rattle.profile.specs.declared.Level.{Level}
-use Rattle.profile.specs.Keys.{dayOf, powerOf, sureOf}
 use Rattle.profile.specs.Sweep.{level, changed, tightIn, stretchIn, worth, worthy, swept}
-use Rattle.profile.proofs.Keys.{day-rises}
-use Rattle.profile.proofs.Each.{Each, each-map}
-use Rattle.profile.proofs.Adds.{upTo}
 
 -- what a level and the keys after it add up to on day i
 unfoldable pub levelOn : Level → List ℕ → ℤ → Level

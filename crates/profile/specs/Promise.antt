@@ -11,15 +11,10 @@ use Rattle.plan.specs.declared.Task.{Task}
 use Rattle.plan.specs.Days.{dayLow, dayHigh}
 use Rattle.plan.specs.Powers.{powerLow, powerHigh}
 use Rattle.rules.specs.Step.{shortfall, listedDays}
-use Rattle.rules.specs.Calls.{rangesFit}
 use Rattle.rows.specs.View.{noTask}
 use Rattle.stretches.specs.declared.Stretch.{Stretch}
 use Rattle.stretches.specs.View.{noStretch}
 use Rattle.stretches.specs.Tells.{big, Tells}
-
--- each task's ranges lie within their ends
-abbrev pub Fitting : List Task → Type 0
-Fitting ts = (k : ℕ) → k < length ts → rangesFit (getD ts k noTask) ≡ true
 
 -- what is lent is long enough for every event, four a task, and every stretch, one more
 pub record Lent (tasks r : ℕ) (limit : ℤ) (keys spare stretches : ℕ) : Type 0 where

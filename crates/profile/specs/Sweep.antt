@@ -12,10 +12,10 @@ use Rattle.plan.specs.Powers.{power}
 use Rattle.sorting.specs.Order.{Sorted}
 use Rattle.stretches.specs.declared.Stretch.{Stretch}
 use Rattle.stretches.specs.Tells.{big}
-use Rattle.profile.specs.declared.Common.{Common}
+use Rattle.events.specs.declared.Common.{Common}
+use Rattle.events.specs.Events.{count}
+use Rattle.events.specs.Keys.{dayOf, powerOf, sureOf}
 use Rattle.profile.specs.declared.Level.{Level}
-use Rattle.profile.specs.Events.{count}
-use Rattle.profile.specs.Keys.{dayOf, powerOf, sureOf}
 
 abbrev pub level : ℤ → ℤ → Level
 level x u = record { slack = power x; sure = count u }

@@ -1,7 +1,7 @@
 -- `profile::put_worthy`: a store where it is worth it, else nothing.
 use mathlib.Core.Path.{sym, _∙_}
 use native.Mathlib.Omega.{arith}
-use Rattle.profile.proofs.Laid.{laid-none, laid-one}
+use Rattle.events.proofs.Laid.{laid-none, laid-one}
 use Rattle.stretches.specs.View.{stretchesOf}
 use Rattle.stretches.proofs.View.{length-stretches}
 use borrow.Author.Needs.{needs}

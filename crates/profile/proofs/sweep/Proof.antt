@@ -6,8 +6,8 @@ use Prim.Native.Nat.{_-_, _≤_, _<_}
 use lib.ListN.{length, take, drop, getD}
 use Rattle.stretches.specs.View.{stretchesOf}
 use Rattle.stretches.proofs.View.{length-stretches}
+use Rattle.events.proofs.Laid.{laid-all}
 use Rattle.profile.specs.Sweep.{swept}
-use Rattle.profile.proofs.Laid.{laid-all}
 use Rattle.profile.proofs.Loops.{Small, small-start, small-fits, small-more, swept-more, swept-end, worthy-few}
 use Rattle.profile.proofs.sweep.Statement.{statement}
 use Rattle.profile.proofs.sweep.Tie as tie

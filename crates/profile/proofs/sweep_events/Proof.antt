@@ -2,7 +2,7 @@
 use native.Mathlib.Omega.{arith}
 use mathlib.Core.Path.{_≡_}
 use lib.ListN.{length, length-take}
-use Rattle.profile.proofs.Laid.{front}
+use Rattle.events.proofs.Laid.{front}
 use Rattle.stretches.proofs.View.{length-stretches}
 use borrow.Author.Needs.{needs}
 use Rattle.profile.proofs.sweep_events.Statement.{statement}

@@ -1,0 +1,23 @@
+-- `events::is_hopeful`: the second test only where the first holds.
+use mathlib.Core.Path.{sym, _∙_}
+use Rattle.events.specs.Events.{hopeful}
+use borrow.Author.Needs.{needs}
+use Rattle.events.proofs.is_hopeful.Statement.{statement}
+use Rattle.events.proofs.is_hopeful.Tie as tie
+
+below-requires : tie.Need-below-requires
+below-requires c κs = search needs
+
+before-requires : tie.Need-before-requires
+before-requires c κs = search needs
+
+returns : tie.Need-returns
+unfolding hopeful
+returns c = rw (sym (c .before .before .below .ensures) ∙ c .before .if1 .taken) (c .before2 .ensures)
+
+returns-2 : tie.Need-returns-2
+unfolding hopeful
+returns-2 c = rw (sym (c .before .below .ensures) ∙ c .if1 .left)
+
+pub is-hopeful-spec : {M : Type 1} → statement M
+is-hopeful-spec = tie.close (tie.spec below-requires before-requires returns returns-2)
