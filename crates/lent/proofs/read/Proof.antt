@@ -39,9 +39,9 @@ use Rattle.plan.proofs.Task as T
 use Rattle.plan.proofs.Task.Laws as T′
 use Rattle.plan.proofs.Resource as Q
 use Rattle.plan.proofs.Resource.Laws as Q′
-use Rattle.file.specs.Reading.{readResult}
-use Rattle.file.proofs.ReadAnswer as An
-use Rattle.file.proofs.ReadAnswer.Laws as An′
+use Rattle.format.specs.Reading.{readResult}
+use Rattle.format.proofs.ReadAnswer as An
+use Rattle.format.proofs.ReadAnswer.Laws as An′
 use Rattle.lists.specs.Loaded.{noTask, noResource}
 use Rattle.lists.proofs.Rows.{typed, as-records}
 use Rattle.lists.proofs.Calls.{Gives, Answer, asked}

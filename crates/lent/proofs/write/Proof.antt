@@ -40,9 +40,9 @@ use Rattle.plan.proofs.Resource as Q
 use Rattle.plan.proofs.Resource.Laws as Q′
 use Rattle.plan.proofs.Sense as S
 use Rattle.plan.proofs.Sense.Laws as S′
-use Rattle.file.specs.declared.WriteAnswer.{WriteAnswer}
-use Rattle.file.proofs.WriteAnswer as An
-use Rattle.file.proofs.WriteAnswer.Laws as An′
+use Rattle.format.specs.declared.WriteAnswer.{WriteAnswer}
+use Rattle.format.proofs.WriteAnswer as An
+use Rattle.format.proofs.WriteAnswer.Laws as An′
 use Rattle.lists.specs.declared.Resources.{Resources}
 use Rattle.lists.specs.declared.Tasks.{Tasks}
 use Rattle.lists.specs.Loaded.{noTask, noResource, loadedTasks, loadedResources}
