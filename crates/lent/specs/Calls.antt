@@ -11,9 +11,9 @@ use Rattle.format.specs.declared.ReadAnswer.{ReadAnswer}
 use Rattle.format.specs.declared.WriteAnswer.{WriteAnswer}
 use Rattle.format.specs.Reading.{ReadResult, readResult, readCall}
 use Rattle.format.specs.Writing.{writeResult, writeCall}
-use Rattle.lists.specs.declared.Resources.{Resources}
-use Rattle.lists.specs.declared.Tasks.{Tasks}
-use Rattle.lists.specs.Loaded.{loadedTasks, loadedResources}
+use Rattle.copies.specs.declared.Resources.{Resources}
+use Rattle.copies.specs.declared.Tasks.{Tasks}
+use Rattle.copies.specs.Loaded.{loadedTasks, loadedResources}
 use Rattle.lent.specs.declared.Taken.{Taken}
 
 -- ---- writing: the answer, and what the buffer holds later

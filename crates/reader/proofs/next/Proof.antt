@@ -51,7 +51,7 @@ use Rattle.cursor.proofs.Cursor.next as step
 use Rattle.cursor.proofs.Cursor.next.Symbol as step-def
 use Rattle.cursor.proofs.Cursor.next.Symbol.{name as #step}
 use Rattle.cursor.proofs.Cursor.next.Met as step-thm
-use Rattle.lists.proofs.Calls.{Gives, Answer, asked, calls-told}
+use Rattle.copies.proofs.Calls.{Gives, Answer, asked, calls-told}
 use Rattle.reader.specs.declared.Reader.{Reader}
 use Rattle.reader.proofs.Reader as T
 use Rattle.reader.proofs.Reader.Laws as T′

@@ -36,12 +36,12 @@ use denote.Triple.Entry.{Vals, onEntry}
 use denote.Triple.Spec.{Meets, tripleOf}
 use denote.Triple.Walked.{says, Stays, stay-none-slice, walkOf, goes-none-slice, Walks, ends-at, walked, walk-meets}
 use denote.Exit.{yes}
-use Rattle.lists.specs.Loaded.{firsts}
-use Rattle.lists.proofs.Rows.{R, τ}
-use Rattle.lists.proofs.Calls.{Answer, Answers, Gives, asked}
-use Rattle.lists.proofs.Loading.{body, loaded, slice, starts}
-use Rattle.lists.proofs.fewer_of as fewer-of
-use Rattle.lists.proofs.fewer_of.Symbol.{name as #fewer}
+use Rattle.copies.specs.Loaded.{firsts}
+use Rattle.copies.proofs.Rows.{R, τ}
+use Rattle.copies.proofs.Calls.{Answer, Answers, Gives, asked}
+use Rattle.copies.proofs.Loading.{body, loaded, slice, starts}
+use Rattle.copies.proofs.fewer_of as fewer-of
+use Rattle.copies.proofs.fewer_of.Symbol.{name as #fewer}
 
 -- ---- the call of `fewer_of`
 module _ {M : Type 1} (𝓤 : URA M) (H : Heap 𝓤) (A : Atoms 𝓤) (W : Given 𝓤 H A) (mem″ : Memory → SProp 𝓤) (run : Routine → Fun 𝓤) where

@@ -6,7 +6,7 @@ use native.Mathlib.Omega.{arith}
 use native.Mathlib.Nat.{not-suc-le-zero, le-of-suc-le-suc, zero-min, min-zero, suc-min-suc}
 use lib.ListN.{length, take, drop, replicate}
 use Rattle.integers.proofs.Loops.{over}
-use Rattle.lists.specs.Loaded.{firsts}
+use Rattle.copies.specs.Loaded.{firsts}
 
 module _ {A : Type 0} where
   pub over-length : (i : ℕ) (xs ds : List A) → length (over i xs ds) ≡ length ds

@@ -19,7 +19,7 @@ use denote.Memory.{pointee}
 use denote.Ref.{RefT}
 use denote.Slice.{sliceTy, sliceVal, ShrSlice, Room, shr-slice-copy}
 use denote.Steps.{nothing}
-use Rattle.lists.proofs.Calls.{Gives, Answer, Answers, calls-told}
+use Rattle.copies.proofs.Calls.{Gives, Answer, Answers, calls-told}
 
 -- ---- the code: the three functions that are called
 abbrev pub body : Name → Name → Name → Body

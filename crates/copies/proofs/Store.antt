@@ -38,10 +38,10 @@ use denote.Triple.Spec.{Meets, tripleOf}
 use denote.Triple.Walked.{says, needs, Stays, stay-slice, stay-none, walkOf, goes-slice, goes-none, Walks, ends-at, walked, walk-meets}
 use denote.Exit.{yes, unchanged}
 use Rattle.integers.proofs.Loops.{over}
-use Rattle.lists.proofs.Firsts.{over-is}
-use Rattle.lists.proofs.Rows.{R, τ, many, typed}
-use Rattle.lists.proofs.Calls.{Gives}
-use Rattle.lists.proofs.Storing.{body, slice, starts}
+use Rattle.copies.proofs.Firsts.{over-is}
+use Rattle.copies.proofs.Rows.{R, τ, many, typed}
+use Rattle.copies.proofs.Calls.{Gives}
+use Rattle.copies.proofs.Storing.{body, slice, starts}
 
 -- the first n of ps, then what ys has after them; what is returned is `()`
 abbrev pub Stored : {X : Type 0} → List X → List X → ℕ → Val → List X → Type 0

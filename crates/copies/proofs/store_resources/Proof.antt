@@ -4,12 +4,12 @@ use denote.Triple.Spec.{tripleOf}
 use denote.Triple.Table.{entered}
 use Rattle.plan.proofs.Resource as T
 use Rattle.plan.proofs.Resource.Laws as T′
-use Rattle.lists.specs.Loaded.{noResource}
-use Rattle.lists.proofs.Store.{meets}
-use Rattle.lists.proofs.store_resources.Key.{name as #store}
-use Rattle.lists.proofs.store_resources as store
-use Rattle.lists.proofs.store_resources.Statement as stated
-use Rattle.lists.proofs.store_resources.Code as code
+use Rattle.copies.specs.Loaded.{noResource}
+use Rattle.copies.proofs.Store.{meets}
+use Rattle.copies.proofs.store_resources.Key.{name as #store}
+use Rattle.copies.proofs.store_resources as store
+use Rattle.copies.proofs.store_resources.Statement as stated
+use Rattle.copies.proofs.store_resources.Code as code
 
 pub store-resources-spec : {M : Type 1} → stated.statement M
 unfolding code.routine tablesOf

@@ -22,8 +22,8 @@ use denote.Memory.{pointee}
 use denote.Array.{Array}
 use denote.Ref.{RefT}
 use denote.Slice.{sliceTy, sliceVal, MutSlice, ShrSlice, Room, finally, shr-slice-copy}
-use Rattle.lists.proofs.Calls.{Gives, Answer, calls-told}
-use Rattle.lists.proofs.Store.{Stored}
+use Rattle.copies.proofs.Calls.{Gives, Answer, calls-told}
+use Rattle.copies.proofs.Store.{Stored}
 
 abbrev word : Ty
 word = tyInt w64

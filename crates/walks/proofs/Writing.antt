@@ -19,7 +19,7 @@ use denote.Laws.{Is}
 use denote.Memory.{pointee}
 use denote.Ref.{RefT}
 use denote.Slice.{sliceTy, sliceVal, MutSlice, ShrSlice, Room, finally, shr-slice-copy}
-use Rattle.lists.proofs.Calls.{Gives, Answer, calls-told}
+use Rattle.copies.proofs.Calls.{Gives, Answer, calls-told}
 
 -- ---- the code: the buffer's element at the MIR type υ, and the three functions that are called
 abbrev pub body : Ty → Name → Name → Name → Body

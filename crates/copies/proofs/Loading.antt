@@ -38,10 +38,10 @@ use denote.Struct.Declared.{Declared, fields}
 use denote.Struct.Struct.{Plains}
 use denote.Struct.Laws as LL
 use Rattle.integers.proofs.Loops.{over, over-none, over-more}
-use Rattle.lists.specs.Loaded.{firsts}
-use Rattle.lists.proofs.Firsts.{over-length, over-firsts}
-use Rattle.lists.proofs.Rows.{R, τ, one, many, same, typed, apart, whole as array-at}
-use Rattle.lists.proofs.Calls.{Answer, Answers, calls-told}
+use Rattle.copies.specs.Loaded.{firsts}
+use Rattle.copies.proofs.Firsts.{over-length, over-firsts}
+use Rattle.copies.proofs.Rows.{R, τ, one, many, same, typed, apart, whole as array-at}
+use Rattle.copies.proofs.Calls.{Answer, Answers, calls-told}
 
 abbrev word : Ty
 word = tyInt w64

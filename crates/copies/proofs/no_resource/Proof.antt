@@ -1,8 +1,8 @@
 -- `no_resource` gives the record that fills the places past a list's end.
 use mathlib.Core.Path.{refl}
-use Rattle.lists.specs.Loaded.{noResource}
-use Rattle.lists.proofs.no_resource.Statement.{statement}
-use Rattle.lists.proofs.no_resource.Tie as tie
+use Rattle.copies.specs.Loaded.{noResource}
+use Rattle.copies.proofs.no_resource.Statement.{statement}
+use Rattle.copies.proofs.no_resource.Tie as tie
 
 returns : tie.Need-returns
 unfolding noResource

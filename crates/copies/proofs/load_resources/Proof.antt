@@ -25,24 +25,24 @@ use denote.Triple.Table.{entered, cited}
 use Rattle.plan.specs.declared.Resource.{Resource}
 use Rattle.plan.proofs.Resource as T
 use Rattle.plan.proofs.Resource.Laws as T′
-use Rattle.lists.specs.Loaded.{firsts, noResource, loadedResources}
-use Rattle.lists.proofs.Resources as P
-use Rattle.lists.proofs.Resources.Laws as P′
-use Rattle.lists.proofs.Rows.{as-field}
-use Rattle.lists.proofs.Calls.{Answers, asked}
-use Rattle.lists.proofs.Loading.{loaded}
-use Rattle.lists.proofs.Load.{Fewer, meets}
-use Rattle.lists.proofs.fewer_of.Symbol as fewer-def
-use Rattle.lists.proofs.fewer_of.Symbol.{name as #fewer}
-use Rattle.lists.proofs.fewer_of.Met as fewer-thm
-use Rattle.lists.proofs.no_resource as none
-use Rattle.lists.proofs.no_resource.Symbol as none-def
-use Rattle.lists.proofs.no_resource.Symbol.{name as #none}
-use Rattle.lists.proofs.no_resource.Met as none-thm
-use Rattle.lists.proofs.load_resources.Key.{name as #load}
-use Rattle.lists.proofs.load_resources as load
-use Rattle.lists.proofs.load_resources.Statement as stated
-use Rattle.lists.proofs.load_resources.Code as code
+use Rattle.copies.specs.Loaded.{firsts, noResource, loadedResources}
+use Rattle.copies.proofs.Resources as P
+use Rattle.copies.proofs.Resources.Laws as P′
+use Rattle.copies.proofs.Rows.{as-field}
+use Rattle.copies.proofs.Calls.{Answers, asked}
+use Rattle.copies.proofs.Loading.{loaded}
+use Rattle.copies.proofs.Load.{Fewer, meets}
+use Rattle.copies.proofs.fewer_of.Symbol as fewer-def
+use Rattle.copies.proofs.fewer_of.Symbol.{name as #fewer}
+use Rattle.copies.proofs.fewer_of.Met as fewer-thm
+use Rattle.copies.proofs.no_resource as none
+use Rattle.copies.proofs.no_resource.Symbol as none-def
+use Rattle.copies.proofs.no_resource.Symbol.{name as #none}
+use Rattle.copies.proofs.no_resource.Met as none-thm
+use Rattle.copies.proofs.load_resources.Key.{name as #load}
+use Rattle.copies.proofs.load_resources as load
+use Rattle.copies.proofs.load_resources.Statement as stated
+use Rattle.copies.proofs.load_resources.Code as code
 
 -- the array and the length make the struct
 is : (ys : List Resource) (v : Val) → length ys < 2 ^ 64 → Is (Array T.the-row 16) (firsts 16 noResource ys) (v ∷ []) → Is P.the-row (loadedResources ys) (loaded v (length ys) ∷ [])
@@ -65,5 +65,5 @@ load-resources-spec 𝓤 H 𝓜 𝓖 𝓡 =
     (tables 𝓤 H 𝓜 𝓡 code.env .C) (tables 𝓤 H 𝓜 𝓡 code.env .Λ) #load code.function (code.unfolded 𝓤 H 𝓜 𝓡)
     (meets T.the-type T′.the-laws T′.the-copy T′.the-plain 16 noResource P.the-type P′.the-laws P′.the-plain loadedResources 𝓤 H (𝓖 .A) (givenOf 𝓤 H 𝓜 𝓖) (tablesOf 𝓤 H 𝓜 (tables 𝓤 H 𝓜 𝓡 code.env)) (𝓜 .mem) (𝓡 .run) is tt tt #none
     (made 𝓤 H (𝓖 .A) (givenOf 𝓤 H 𝓜 𝓖) (𝓜 .mem) (𝓡 .run) (tablesOf 𝓤 H 𝓜 (tables 𝓤 H 𝓜 𝓡 code.env))
-    (cited 𝓤 H (None 𝓤 H (𝓖 .A) (givenOf 𝓤 H 𝓜 𝓖) (𝓜 .mem) (𝓡 .run)) 𝓜 𝓡 code.env #none none-def.routine code.calls-lists·no-resource (none-thm.met 𝓤 H 𝓜 𝓖 𝓡)))
-    (cited 𝓤 H (Fewer 𝓤 H (𝓖 .A) (givenOf 𝓤 H 𝓜 𝓖) (𝓜 .mem) (𝓡 .run)) 𝓜 𝓡 code.env #fewer fewer-def.routine code.calls-lists·fewer-of (fewer-thm.met 𝓤 H 𝓜 𝓖 𝓡)))
+    (cited 𝓤 H (None 𝓤 H (𝓖 .A) (givenOf 𝓤 H 𝓜 𝓖) (𝓜 .mem) (𝓡 .run)) 𝓜 𝓡 code.env #none none-def.routine code.calls-copies·no-resource (none-thm.met 𝓤 H 𝓜 𝓖 𝓡)))
+    (cited 𝓤 H (Fewer 𝓤 H (𝓖 .A) (givenOf 𝓤 H 𝓜 𝓖) (𝓜 .mem) (𝓡 .run)) 𝓜 𝓡 code.env #fewer fewer-def.routine code.calls-copies·fewer-of (fewer-thm.met 𝓤 H 𝓜 𝓖 𝓡)))

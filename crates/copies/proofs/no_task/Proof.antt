@@ -1,8 +1,8 @@
 -- `no_task` gives the record that fills the places past a list's end.
 use mathlib.Core.Path.{refl}
-use Rattle.lists.specs.Loaded.{noTask}
-use Rattle.lists.proofs.no_task.Statement.{statement}
-use Rattle.lists.proofs.no_task.Tie as tie
+use Rattle.copies.specs.Loaded.{noTask}
+use Rattle.copies.proofs.no_task.Statement.{statement}
+use Rattle.copies.proofs.no_task.Tie as tie
 
 returns : tie.Need-returns
 unfolding noTask

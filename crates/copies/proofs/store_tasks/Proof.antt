@@ -4,12 +4,12 @@ use denote.Triple.Spec.{tripleOf}
 use denote.Triple.Table.{entered}
 use Rattle.plan.proofs.Task as T
 use Rattle.plan.proofs.Task.Laws as T′
-use Rattle.lists.specs.Loaded.{noTask}
-use Rattle.lists.proofs.Store.{meets}
-use Rattle.lists.proofs.store_tasks.Key.{name as #store}
-use Rattle.lists.proofs.store_tasks as store
-use Rattle.lists.proofs.store_tasks.Statement as stated
-use Rattle.lists.proofs.store_tasks.Code as code
+use Rattle.copies.specs.Loaded.{noTask}
+use Rattle.copies.proofs.Store.{meets}
+use Rattle.copies.proofs.store_tasks.Key.{name as #store}
+use Rattle.copies.proofs.store_tasks as store
+use Rattle.copies.proofs.store_tasks.Statement as stated
+use Rattle.copies.proofs.store_tasks.Code as code
 
 pub store-tasks-spec : {M : Type 1} → stated.statement M
 unfolding code.routine tablesOf

@@ -7,8 +7,8 @@ use Rattle.plan.specs.Days.{day}
 use Rattle.plan.specs.Powers.{power}
 use Rattle.plan.specs.declared.Task.{Task}
 use Rattle.plan.specs.declared.Resource.{Resource}
-use Rattle.lists.specs.declared.Tasks.{Tasks}
-use Rattle.lists.specs.declared.Resources.{Resources}
+use Rattle.copies.specs.declared.Tasks.{Tasks}
+use Rattle.copies.specs.declared.Resources.{Resources}
 
 -- what fills the places past a list's end
 unfoldable pub noTask : Task

@@ -35,9 +35,9 @@ use denote.Struct.Declared.{Declared, fields}
 use denote.Struct.Struct.{Plains}
 use denote.Struct.Laws as LL
 use Rattle.integers.proofs.Loops.{over, over-none, over-more}
-use Rattle.lists.proofs.Firsts.{over-length}
-use Rattle.lists.proofs.Rows.{R, τ, one, many, typed, apart, whole as array-at}
-use Rattle.lists.proofs.Loading.{scale}
+use Rattle.copies.proofs.Firsts.{over-length}
+use Rattle.copies.proofs.Rows.{R, τ, one, many, typed, apart, whole as array-at}
+use Rattle.copies.proofs.Loading.{scale}
 
 abbrev word : Ty
 word = tyInt w64

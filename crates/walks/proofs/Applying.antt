@@ -29,8 +29,8 @@ use denote.Slice.{heres, codedHoleys, sliceTy, sliceVal, MutSlice, ShrSlice, Roo
 use denote.Lend.{Held, lends-shr-slice}
 use denote.Index.{opens-slice, closes-slice}
 use denote.Steps.{nothing}
-use Rattle.lists.proofs.Calls.{Gives, Answer, Answers, calls-told}
-use Rattle.lists.proofs.Store.{Stored}
+use Rattle.copies.proofs.Calls.{Gives, Answer, Answers, calls-told}
+use Rattle.copies.proofs.Store.{Stored}
 
 abbrev word : Ty
 word = tyInt w64
