@@ -1,7 +1,7 @@
 // Damaged plan files, the paper's number and place of each refusal on a line. The whole file is the paper's case 9: its records start
 // at bytes 0, 6, 16, 26 and 62, and it ends at 98; a byte too many follows.
-use file::ReadAnswer;
-use file::WriteAnswer;
+use format::ReadAnswer;
+use format::WriteAnswer;
 use plan::Refusal;
 use plan::Sense;
 

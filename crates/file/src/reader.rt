@@ -1,6 +1,6 @@
-// A reader stands in the lent file bytes and hands out one record after another: a cursor by value on the bytes.
+// A plan file read: the cursor's records in the order that they are due, into rows with places for them.
 ghost use mathlib.Core.Path.{_≡_};
-ghost use Prim.Native.Nat.{ℕ, _+_, _*_, _≤_, _<_, _^_};
+ghost use Prim.Native.Nat.{ℕ, _+_, _*_, _≤_};
 ghost use mathlib.Core.List.{map};
 ghost use lib.ListN.{length, take, drop};
 ghost use lib.Seq.{sets};
@@ -9,178 +9,20 @@ ghost use lib.Dec.{ltb};
 ghost use Rattle.plan.specs.declared.Refusal.the-variants.{CutShort};
 ghost use Rattle.rows.specs.View.{tasksOf, resourcesOf};
 ghost use Rattle.entry.specs.Checks.{checkedOf};
-ghost use Rattle.file.specs.declared.Mark.the-variants.{PL, RS, TK};
-ghost use Rattle.file.specs.Format.{size, numbersIn, headerFrom, resourceFrom, taskFrom, senseFrom};
-ghost use Rattle.file.specs.Reading.{marked, cursor, whole, handed, recordAt, sameMark, notDue, through, eachDue, recordsIn, headerDue, bodyDue, resourcesIn, tasksIn, readAfter, readPlan, readAnswer, Stands};
-use crate::Cursor;
-use crate::Header;
-use crate::Mark;
-use crate::ReadAnswer;
-use crate::Record;
-use crate::Run;
-use crate::fields::day_at;
-use crate::fields::first_byte;
-use crate::fields::id_at;
-use crate::fields::one_at;
-use crate::fields::power_at;
-use crate::fields::second_byte;
-use crate::fields::two_at;
+ghost use Rattle.format.specs.declared.Mark.the-variants.{RS, TK};
+ghost use Rattle.format.specs.Format.{size, resourceFrom, taskFrom, senseFrom};
+ghost use Rattle.format.specs.Reading.{eachDue, recordsIn, headerDue, bodyDue, resourcesIn, tasksIn, readAfter, readPlan, readAnswer, Stands};
+ghost use Rattle.cursor.specs.Handed.{cursor, through};
+use cursor::Cursor;
+use cursor::Record;
+use cursor::Run;
+use cursor::not_due;
 use entry::Entry;
-use plan::PowerSpan;
+use format::Header;
+use format::Mark;
+use format::ReadAnswer;
 use plan::Refusal;
-use plan::Resource;
 use plan::Sense;
-use plan::Span;
-use plan::Task;
-
-// What each record holds, where the bytes begin with it.
-pub fn header_of(b: &[u8]) -> Header
-    requires { ⌜ 6 ≤ length (now b) ⌝ }
-    ensures { λ r. ⌜ r ≡ headerFrom (numbersIn PL (now (b .entry))) ⌝ }
-{
-    Header {
-        sense: b[2],
-        resources: one_at(b, 3) as usize,
-        tasks: two_at(b, 4) as usize,
-    }
-}
-
-fn resource_of(b: &[u8]) -> Resource
-    requires { ⌜ 10 ≤ length (now b) ⌝ }
-    ensures { λ r. ⌜ r ≡ resourceFrom (numbersIn RS (now (b .entry))) ⌝ }
-{
-    Resource {
-        id: id_at(b, 2),
-        limit: power_at(b, 6),
-    }
-}
-
-fn task_of(b: &[u8]) -> Task
-    requires { ⌜ 36 ≤ length (now b) ⌝ }
-    ensures { λ r. ⌜ r ≡ taskFrom (numbersIn TK (now (b .entry))) ⌝ }
-{
-    Task {
-        set: two_at(b, 2) as u64,
-        origin: Span {
-            low: day_at(b, 4),
-            high: day_at(b, 8),
-        },
-        duration: Span {
-            low: day_at(b, 12),
-            high: day_at(b, 16),
-        },
-        end: Span {
-            low: day_at(b, 20),
-            high: day_at(b, 24),
-        },
-        height: PowerSpan {
-            low: power_at(b, 28),
-            high: power_at(b, 32),
-        },
-    }
-}
-
-// The two mark bytes are those of the mark.
-fn is_marked(k: Mark, b: &[u8]) -> bool
-    requires { ⌜ 2 ≤ length (now b) ⌝ }
-    ensures { λ r. ⌜ r ≡ marked k (now (b .entry)) ⌝ }
-{
-    if b[0] == first_byte(k) {
-        b[1] == second_byte(k)
-    } else {
-        false
-    }
-}
-
-// Each record, unless it is longer than the rest; the cursor past it.
-fn plan_record(at: usize, b: &[u8]) -> Record
-    requires { ⌜ at + length (now b) < 2 ^ 64 ⌝ }
-    ensures { λ r. ⌜ r ≡ whole PL (now (b .entry)) (Record.Plan (headerFrom (numbersIn PL (now (b .entry)))) (cursor (at + size PL))) ⌝ }
-{
-    if b.len() < 6 {
-        return Record::CutShort(Mark::PL);
-    }
-    Record::Plan(header_of(b), Cursor { at: at + 6 })
-}
-
-fn resource_record(at: usize, b: &[u8]) -> Record
-    requires { ⌜ at + length (now b) < 2 ^ 64 ⌝ }
-    ensures { λ r. ⌜ r ≡ whole RS (now (b .entry)) (Record.Resource (resourceFrom (numbersIn RS (now (b .entry)))) (cursor (at + size RS))) ⌝ }
-{
-    if b.len() < 10 {
-        return Record::CutShort(Mark::RS);
-    }
-    Record::Resource(resource_of(b), Cursor { at: at + 10 })
-}
-
-fn task_record(at: usize, b: &[u8]) -> Record
-    requires { ⌜ at + length (now b) < 2 ^ 64 ⌝ }
-    ensures { λ r. ⌜ r ≡ whole TK (now (b .entry)) (Record.Task (taskFrom (numbersIn TK (now (b .entry)))) (cursor (at + size TK))) ⌝ }
-{
-    if b.len() < 36 {
-        return Record::CutShort(Mark::TK);
-    }
-    Record::Task(task_of(b), Cursor { at: at + 36 })
-}
-
-// What stands in the bytes from the place `at` on.
-fn handed(at: usize, b: &[u8]) -> Record
-    requires { ⌜ at + length (now b) < 2 ^ 64 ⌝ }
-    ensures { λ r. ⌜ r ≡ handed at (now (b .entry)) ⌝ }
-{
-    if b.len() < 2 {
-        return Record::Ended;
-    }
-    if is_marked(Mark::PL, b) {
-        return plan_record(at, b);
-    }
-    if is_marked(Mark::RS, b) {
-        return resource_record(at, b);
-    }
-    if is_marked(Mark::TK, b) {
-        return task_record(at, b);
-    }
-    Record::NoMark
-}
-
-impl Cursor {
-    // The record at the cursor; a cursor past the end stands before nothing.
-    pub fn next(self, file: &[u8]) -> Record
-        ensures { λ r. ⌜ r ≡ recordAt (now (file .entry)) (self .at) ⌝ }
-    {
-        let at = self.at;
-        if at < file.len() {
-            return handed(at, &file[at..]);
-        }
-        Record::Ended
-    }
-}
-
-fn same_mark(j: Mark, k: Mark) -> bool
-    ensures { λ r. ⌜ r ≡ sameMark j k ⌝ }
-{
-    first_byte(j) == first_byte(k)
-}
-
-// "turns every other answer into the refusal": the place is where the record starts.
-pub fn not_due(k: Mark, at: usize, got: Record) -> Refusal
-    ensures { λ r. ⌜ r ≡ notDue k at got ⌝ }
-{
-    match got {
-        Record::Ended => Refusal::CutShort(at),
-        Record::CutShort(j) => {
-            if same_mark(j, k) {
-                Refusal::CutShort(at)
-            } else {
-                Refusal::WrongMark(at)
-            }
-        }
-        Record::Plan(_, _) => Refusal::WrongMark(at),
-        Record::Resource(_, _) => Refusal::WrongMark(at),
-        Record::Task(_, _) => Refusal::WrongMark(at),
-        Record::NoMark => Refusal::WrongMark(at),
-    }
-}
 
 // So many records of one mark, one after another: the rows they make, and the cursor past them.
 fn read_resources(file: &[u8], from: Cursor, n: usize, q: &mut [[i64; 2]]) -> Run

@@ -26,17 +26,17 @@ use Rattle.engine.specs.Answers.{resultOf}
 use Rattle.engine.specs.Calls.{callOf, placedIn, workOf}
 use Rattle.engine.proofs.Facing.{length-facing, check-facing, tasks-back}
 use Rattle.engine.proofs.Calls.{resultBack, call-worked, work-accepted}
-use Rattle.file.specs.declared.ReadAnswer.{ReadAnswer}
-use Rattle.file.specs.Reading.{Read, readPlan, readAnswer, headerIn, resourcesIn, tasksIn, shapeDue}
-use Rattle.file.proofs.Records.{then-second}
-use Rattle.file.proofs.Files.{read-accepted, read-is}
-use Rattle.file.specs.declared.Mark.{Mark}
-use Rattle.file.specs.declared.Mark.the-variants.{PL, RS, TK}
-use Rattle.file.specs.declared.Header.{Header}
-use Rattle.file.specs.Numbers.{bytesOf}
-use Rattle.file.specs.Format.{senseFrom, recordBytes, fieldBytes, headerNumbers, resourceNumbers, taskNumbers}
-use Rattle.file.specs.declared.WriteAnswer.the-variants.{Written}
-use Rattle.file.specs.Writing.{recordsBytes, headerOf, written, laid, writeResult, writtenIn, roomFor}
+use Rattle.format.specs.declared.ReadAnswer.{ReadAnswer}
+use Rattle.format.specs.Reading.{Read, readPlan, readAnswer, headerIn, resourcesIn, tasksIn, shapeDue}
+use Rattle.format.proofs.Records.{then-second}
+use Rattle.format.proofs.Files.{read-accepted, read-is}
+use Rattle.format.specs.declared.Mark.{Mark}
+use Rattle.format.specs.declared.Mark.the-variants.{PL, RS, TK}
+use Rattle.format.specs.declared.Header.{Header}
+use Rattle.format.specs.Numbers.{bytesOf}
+use Rattle.format.specs.Format.{senseFrom, recordBytes, fieldBytes, headerNumbers, resourceNumbers, taskNumbers}
+use Rattle.format.specs.declared.WriteAnswer.the-variants.{Written}
+use Rattle.format.specs.Writing.{recordsBytes, headerOf, written, laid, writeResult, writtenIn, roomFor}
 use Rattle.gristwaltz.specs.Files.{FileResult, fileLength, fileResult, refusedFile, resultFile, lentFits, unlessRefusedFile, planCall, afterRead, fileCall}
 
 pub number-small : (f : Refusal) → number f ≤ 12

@@ -16,8 +16,8 @@ use Rattle.plan.specs.Refusals.{number, place}
 use Rattle.rules.specs.Calls.{Checked, orElse, refuseIf, Result, mostResources, mostTasks}
 use Rattle.engine.specs.declared.Call.{Call}
 use Rattle.engine.specs.Calls.{callOf, placedIn}
-use Rattle.file.specs.Reading.{Read, readPlan}
-use Rattle.file.specs.Writing.{written, laid}
+use Rattle.format.specs.Reading.{Read, readPlan}
+use Rattle.format.specs.Writing.{written, laid}
 
 -- "the refusal number times 2^32 plus the place, or, for number 0, the pass count"; every place is below 2^32
 abbrev pub answerNumber : Answer → ℕ

@@ -8,12 +8,12 @@ ghost use Rattle.rules.specs.Calls.{check, mostResources, mostTasks};
 ghost use Rattle.rules.specs.Calls.Checked.{Accepted};
 ghost use Rattle.rows.specs.View.{tasksOf, resourcesOf};
 ghost use Rattle.step.specs.Asks.{Roomy};
-ghost use Rattle.file.specs.Reading.{headerIn, readPlan};
+ghost use Rattle.format.specs.Reading.{headerIn, readPlan};
 ghost use Rattle.engine.specs.declared.Call.the-variants.{Balance, Step, Settle};
 ghost use Rattle.engine.specs.Calls.{callOf, placedIn};
 ghost use Rattle.gristwaltz.specs.Files.{answerNumber, fileLength, fileResult, resultFile, planCall, fileCall, checkFile};
 use engine::Call;
-use file::ReadAnswer;
+use format::ReadAnswer;
 use plan::Answer;
 use plan::Refusal;
 use plan::Sense;
@@ -44,7 +44,7 @@ fn work_plan(
     match answer {
         Answer::Refused(f) => refusal_number(f),
         Answer::Done(n) => {
-            file::put_plan(sense, q, s, out);
+            writer::put_plan(sense, q, s, out);
             n
         }
     }
@@ -187,7 +187,7 @@ fn call_file(c: Call, file: &[u8], out: &mut [u8]) -> u64
     if file.len() < 6 {
         return call_large(c, file, out);
     }
-    let h = file::reader::header_of(file);
+    let h = cursor::header_of(file);
     let n = h.tasks;
     if n <= 16 {
         return call_small(c, file, out);

@@ -6,10 +6,10 @@ use native.Mathlib.Omega.{arith}
 use lib.ListN.{length, take, drop}
 use Rattle.plan.specs.declared.Task.{Task}
 use Rattle.plan.specs.declared.Resource.{Resource}
-use Rattle.file.specs.declared.ReadAnswer.{ReadAnswer}
-use Rattle.file.specs.Reading.{readPlan, readAnswer, readCall, Stands}
-use Rattle.file.specs.Writing.{laid}
-use Rattle.file.proofs.Files.{told, refused, read-lays}
+use Rattle.format.specs.declared.ReadAnswer.{ReadAnswer}
+use Rattle.format.specs.Reading.{readPlan, readAnswer, readCall, Stands}
+use Rattle.format.specs.Writing.{laid}
+use Rattle.format.proofs.Files.{told, refused, read-lays}
 use Rattle.lent.specs.Calls.{takenOf, Takes}
 
 -- the first places stored, where they hold xs

@@ -6,10 +6,10 @@ use Rattle.plan.specs.declared.Answer.{Answer}
 use Rattle.plan.specs.declared.Task.{Task}
 use Rattle.plan.specs.declared.Resource.{Resource}
 use Rattle.rules.specs.Calls.{Result}
-use Rattle.file.specs.declared.ReadAnswer.{ReadAnswer}
-use Rattle.file.specs.declared.WriteAnswer.{WriteAnswer}
-use Rattle.file.specs.Reading.{ReadResult, readResult}
-use Rattle.file.specs.Writing.{WriteResult, writeResult}
+use Rattle.format.specs.declared.ReadAnswer.{ReadAnswer}
+use Rattle.format.specs.declared.WriteAnswer.{WriteAnswer}
+use Rattle.format.specs.Reading.{ReadResult, readResult}
+use Rattle.format.specs.Writing.{WriteResult, writeResult}
 use Rattle.lists.specs.Calls.{result}
 
 -- two results that are one value agree in each part

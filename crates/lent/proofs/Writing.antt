@@ -10,8 +10,8 @@ use Rattle.plan.specs.declared.Resource.{Resource}
 use Rattle.plan.specs.declared.Sense.{Sense}
 use Rattle.plan.specs.declared.Refusal.the-variants.{TooManyTasks, ResourceCount}
 use Rattle.rules.specs.Calls.{check}
-use Rattle.file.specs.declared.WriteAnswer.the-variants.{Refused}
-use Rattle.file.specs.Writing.{WriteResult, writeResult, writeCall}
+use Rattle.format.specs.declared.WriteAnswer.the-variants.{Refused}
+use Rattle.format.specs.Writing.{WriteResult, writeResult, writeCall}
 
 module _ (sense : Sense) (qs : List Resource) (ts : List Task) (out : List ℕ) where
   pub many-tasks : 256 < length ts → writeResult (Refused TooManyTasks) out ≡ writeCall sense qs ts out

@@ -7,13 +7,13 @@ use Rattle.plan.specs.declared.Task.{Task}
 use Rattle.plan.specs.declared.Resource.{Resource}
 use Rattle.plan.specs.declared.Sense.{Sense}
 use Rattle.rules.specs.Calls.{mostResources, mostTasks}
-use Rattle.file.specs.declared.ReadAnswer.{ReadAnswer}
-use Rattle.file.specs.declared.WriteAnswer.{WriteAnswer}
-use Rattle.file.specs.Reading.{ReadResult, readResult, readCall}
-use Rattle.file.specs.Writing.{writeResult, writeCall}
-use Rattle.lists.specs.declared.Resources.{Resources}
-use Rattle.lists.specs.declared.Tasks.{Tasks}
-use Rattle.lists.specs.Loaded.{loadedTasks, loadedResources}
+use Rattle.format.specs.declared.ReadAnswer.{ReadAnswer}
+use Rattle.format.specs.declared.WriteAnswer.{WriteAnswer}
+use Rattle.format.specs.Reading.{ReadResult, readResult, readCall}
+use Rattle.format.specs.Writing.{writeResult, writeCall}
+use Rattle.copies.specs.declared.Resources.{Resources}
+use Rattle.copies.specs.declared.Tasks.{Tasks}
+use Rattle.copies.specs.Loaded.{loadedTasks, loadedResources}
 use Rattle.lent.specs.declared.Taken.{Taken}
 
 -- ---- writing: the answer, and what the buffer holds later

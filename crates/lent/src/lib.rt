@@ -4,13 +4,13 @@ ghost use Prim.Native.Nat.{_≤_};
 ghost use lib.ListN.{length, take};
 ghost use Rattle.rules.specs.Calls.{mostResources, mostTasks};
 ghost use Rattle.rows.specs.View.{tasksOf, resourcesOf};
-ghost use Rattle.file.specs.Reading.{readResult, readCall};
-ghost use Rattle.file.specs.Writing.{writeResult, writeCall};
+ghost use Rattle.format.specs.Reading.{readResult, readCall};
+ghost use Rattle.format.specs.Writing.{writeResult, writeCall};
 ghost use Rattle.lent.specs.Calls.{Writes, Takes, takenOf};
-use file::ReadAnswer;
-use file::WriteAnswer;
-use lists::Resources;
-use lists::Tasks;
+use copies::Resources;
+use copies::Tasks;
+use format::ReadAnswer;
+use format::WriteAnswer;
 use plan::Refusal;
 use plan::Resource;
 use plan::Sense;
@@ -54,8 +54,8 @@ fn write_loaded(sense: Sense, q: Resources, p: Tasks, out: &mut [u8]) -> WriteAn
 pub fn write(sense: Sense, resources: &[Resource], tasks: &[Task], out: &mut [u8]) -> WriteAnswer
     ensures { λ r. ⌜ writeResult r (now (out .exit)) ≡ writeCall sense (now (resources .entry)) (now (tasks .entry)) (now (out .entry)) ⌝ }
 {
-    let q = lists::load_resources(resources);
-    let p = lists::load_tasks(tasks);
+    let q = copies::load_resources(resources);
+    let p = copies::load_tasks(tasks);
     write_loaded(sense, q, p, out)
 }
 
@@ -137,9 +137,9 @@ pub fn read(file: &[u8], resources: &mut [Resource], tasks: &mut [Task]) -> Read
     let r = take_plan(file, resources.len(), tasks.len());
     let first = r.resources;
     let listed = r.listed;
-    lists::store_resources(resources, first, listed);
+    copies::store_resources(resources, first, listed);
     let list = r.tasks;
     let stored = r.stored;
-    lists::store_tasks(tasks, list, stored);
+    copies::store_tasks(tasks, list, stored);
     r.answer
 }

@@ -36,7 +36,7 @@ use Rattle.engine.specs.Calls.{callOf}
 use Rattle.lists.specs.Calls.{result}
 use Rattle.engine.proofs.Call as C
 use Rattle.engine.proofs.Call.Laws as C′
-use Rattle.lists.proofs.Calls.{Gives}
+use Rattle.copies.proofs.Calls.{Gives}
 use Rattle.lists.proofs.apply as apply
 use Rattle.lists.proofs.apply.Symbol.{name as #apply}
 

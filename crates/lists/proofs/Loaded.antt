@@ -8,9 +8,9 @@ use Rattle.plan.specs.declared.Task.{Task}
 use Rattle.plan.specs.declared.Resource.{Resource}
 use Rattle.rules.specs.Calls.{mostTasks, mostResources}
 use Rattle.arrays.specs.Runs.{Holds}
-use Rattle.lists.specs.declared.Tasks.{Tasks}
-use Rattle.lists.specs.declared.Resources.{Resources}
-use Rattle.lists.specs.Loaded.{firsts, noTask, noResource, loadedTasks, loadedResources}
+use Rattle.copies.specs.declared.Tasks.{Tasks}
+use Rattle.copies.specs.declared.Resources.{Resources}
+use Rattle.copies.specs.Loaded.{firsts, noTask, noResource, loadedTasks, loadedResources}
 
 take-back : {A : Type 0} (n : ℕ) (xs ds : List A) → length xs ≤ n → take (length xs) (take n (xs ++ ds)) ≡ xs
 take-back n [] ds h = refl

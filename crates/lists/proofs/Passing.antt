@@ -49,7 +49,7 @@ use Rattle.engine.specs.Calls.{callOf}
 use Rattle.lists.specs.Calls.{result}
 use Rattle.engine.proofs.Call as C
 use Rattle.engine.proofs.Call.Laws as C′
-use Rattle.lists.proofs.Calls.{calls-told}
+use Rattle.copies.proofs.Calls.{calls-told}
 use Rattle.lists.proofs.Applied.{Apply, Applied, Lends, Has, applies, hands-back}
 use Rattle.lists.proofs.apply.Symbol.{name as #apply}
 

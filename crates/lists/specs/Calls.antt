@@ -12,9 +12,9 @@ use Rattle.engine.specs.declared.Call.{Call}
 use Rattle.engine.specs.Calls.{callOf}
 use Rattle.arrays.specs.declared.Ran.{Ran}
 use Rattle.arrays.specs.Runs.{left}
-use Rattle.lists.specs.Loaded.{loadedTasks, loadedResources}
-use Rattle.lists.specs.declared.Resources.{Resources}
-use Rattle.lists.specs.declared.Tasks.{Tasks}
+use Rattle.copies.specs.Loaded.{loadedTasks, loadedResources}
+use Rattle.copies.specs.declared.Resources.{Resources}
+use Rattle.copies.specs.declared.Tasks.{Tasks}
 
 -- a call's answer beside the tasks that it leaves
 abbrev pub result : Answer → List Task → Result

@@ -1,2 +1,2 @@
-pub mod Loaded
+-- What the calls over lent lists promise.
 pub mod Calls

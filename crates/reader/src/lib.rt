@@ -1,9 +1,9 @@
 // "A reader stands in the lent file bytes and hands out one record after another": it holds the bytes and its place in them.
 // Each of its functions takes it apart for the cursor by value, which stands on the same bytes.
 ghost use mathlib.Core.Path.{_≡_};
-ghost use Rattle.file.specs.Reading.{recordAt};
-use file::Cursor;
-use file::Record;
+ghost use Rattle.cursor.specs.Handed.{recordAt};
+use cursor::Cursor;
+use cursor::Record;
 
 pub struct Reader<'a> {
     pub file: &'a [u8],

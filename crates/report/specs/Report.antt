@@ -5,7 +5,7 @@ use Rattle.plan.specs.declared.Task.{Task}
 use Rattle.plan.specs.declared.Answer.{Answer}
 use Rattle.plan.specs.declared.Answer.the-variants.{Done, Refused}
 use Rattle.rules.specs.Calls.{Result, settleCall, mostResources, mostTasks}
-use Rattle.file.specs.Reading.{Read, readPlan}
+use Rattle.format.specs.Reading.{Read, readPlan}
 use Rattle.text.specs.Text.{settledLine, refusedLine, taskLines}
 
 abbrev pub answerText : Answer → List Task → List ℕ

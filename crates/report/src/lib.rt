@@ -10,7 +10,7 @@ ghost use Rattle.rows.specs.View.{tasksOf, resourcesOf};
 ghost use Rattle.text.specs.Text.{Put};
 ghost use Rattle.report.specs.Report.{answerText, resultText, reportOf, mostText};
 use engine::Call;
-use file::ReadAnswer;
+use format::ReadAnswer;
 use plan::Answer;
 use plan::Sense;
 

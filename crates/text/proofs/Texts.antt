@@ -17,7 +17,7 @@ use Rattle.integers.proofs.Z.{z, -z}
 use lib.ListN.{length, getD, drop, length-append, drop-of-length-le}
 use lib.Seq.{sets, length-sets, drop-cons}
 use Rattle.plan.specs.declared.Task.{Task}
-use Rattle.file.proofs.Stores.{sets-append}
+use Rattle.format.proofs.Stores.{sets-append}
 use Rattle.text.specs.Text.{Put, lastDigits, digits, signed, space, rangeText, taskLine, taskLines}
 
 -- ---- texts

@@ -7,8 +7,8 @@ use lib.IntN.{ℤ}
 use lib.ListN.{length}
 use Rattle.rows.specs.View.{tasksOf, resourcesOf}
 use Rattle.rows.proofs.View.{length-tasks, length-resources}
-use Rattle.file.specs.Reading.{readCall}
-use Rattle.file.proofs.Files.{Told, told, refused, read-lays, resources-copied, tasks-copied}
+use Rattle.format.specs.Reading.{readCall}
+use Rattle.format.proofs.Files.{Told, told, refused, read-lays, resources-copied, tasks-copied}
 use borrow.Author.Needs.{needs}
 use Rattle.file.proofs.read.Statement.{statement}
 use Rattle.file.proofs.read.Tie as tie

@@ -1,7 +1,7 @@
 -- The checks, then the file.
 use mathlib.Core.Path.{sym, ap, _∙_}
 use Rattle.entry.specs.Checks.{checkedOf}
-use Rattle.file.specs.Writing.{writtenIn, writeCall}
+use Rattle.format.specs.Writing.{writtenIn, writeCall}
 use borrow.Author.Needs.{needs}
 use Rattle.file.proofs.write.Statement.{statement}
 use Rattle.file.proofs.write.Tie as tie

@@ -1,8 +1,8 @@
 -- The header says which rows are asked.
 use native.Mathlib.Omega.{arith}
 use mathlib.Core.Path.{_≡_, ap}
-use Rattle.file.specs.declared.Header.{Header}
-use Rattle.file.specs.Reading.{headerIn}
+use Rattle.format.specs.declared.Header.{Header}
+use Rattle.format.specs.Reading.{headerIn}
 use borrow.Author.Needs.{needs}
 use Rattle.gristwaltz.proofs.call_file.Statement.{statement}
 use Rattle.gristwaltz.proofs.call_file.Tie as tie

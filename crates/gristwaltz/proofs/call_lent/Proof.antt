@@ -13,11 +13,11 @@ use Rattle.rules.specs.Calls.{check, mostResources, mostTasks}
 use Rattle.rules.specs.Calls.Checked.{Accepted}
 use Rattle.rows.specs.View.{tasksOf, resourcesOf}
 use Rattle.rows.proofs.View.{length-tasks, length-resources, tasks-take, resources-take}
-use Rattle.file.specs.declared.ReadAnswer.{ReadAnswer}
-use Rattle.file.specs.Reading.{readPlan}
+use Rattle.format.specs.declared.ReadAnswer.{ReadAnswer}
+use Rattle.format.specs.Reading.{readPlan}
 use Rattle.gristwaltz.specs.Files.{fileResult, planCall, afterRead, fileCall}
 use borrow.Author.Needs.{needs}
-use Rattle.file.proofs.Files.{Told, told, refused}
+use Rattle.format.proofs.Files.{Told, told, refused}
 use Rattle.gristwaltz.proofs.Files.{got-accepted}
 use Rattle.gristwaltz.proofs.call_lent.Statement.{statement}
 use Rattle.gristwaltz.proofs.call_lent.Tie as tie

@@ -13,7 +13,7 @@ use Rattle.plan.specs.declared.Task.{Task}
 use Rattle.rows.specs.View.{tasksOf, resourcesOf}
 use Rattle.rows.proofs.View.{length-tasks, length-resources}
 use Rattle.engine.specs.Calls.{placedIn}
-use Rattle.file.specs.Writing.{written}
+use Rattle.format.specs.Writing.{written}
 use Rattle.gristwaltz.specs.Files.{fileResult, fileLength}
 use Rattle.gristwaltz.proofs.Files.{length-written, plan-unplaced, plan-short, plan-works}
 use borrow.Author.Needs.{needs}

@@ -1,5 +1,5 @@
 -- A header that counts no more than 16 tasks asks for no more rows.
-use Rattle.file.proofs.Files.{room-same}
+use Rattle.format.proofs.Files.{room-same}
 use borrow.Author.Needs.{needs}
 use Rattle.gristwaltz.proofs.call_small.Statement.{statement}
 use Rattle.gristwaltz.proofs.call_small.Tie as tie

@@ -2,7 +2,7 @@
 use native.Mathlib.Omega.{arith}
 use mathlib.Core.Path.{_≡_, refl, sym, ap, _∙_}
 use Rattle.rules.specs.Calls.{mostResources, mostTasks}
-use Rattle.file.specs.Reading.{readPlan}
+use Rattle.format.specs.Reading.{readPlan}
 use Rattle.gristwaltz.specs.Files.{readNumber, checkFile}
 use Rattle.gristwaltz.proofs.Files.{got, got-none}
 use borrow.Author.Needs.{needs}

@@ -15,8 +15,8 @@ use Rattle.rows.specs.View.{tasksOf, resourcesOf}
 use Rattle.rows.proofs.View.{length-tasks, length-resources}
 use Rattle.engine.specs.Answers.{resultOf}
 use Rattle.engine.specs.Calls.{callOf, placedIn}
-use Rattle.file.specs.Writing.{written, laid}
-use Rattle.file.specs.Writing.{WriteResult}
+use Rattle.format.specs.Writing.{written, laid}
+use Rattle.format.specs.Writing.{WriteResult}
 use Rattle.gristwaltz.specs.Files.{FileResult, fileResult, fileLength, resultFile}
 use Rattle.gristwaltz.proofs.Files.{call-accepted, length-written, fits-laid}
 use borrow.Author.Needs.{needs}

@@ -39,22 +39,22 @@ use Rattle.plan.proofs.Task as T
 use Rattle.plan.proofs.Task.Laws as T′
 use Rattle.plan.proofs.Resource as Q
 use Rattle.plan.proofs.Resource.Laws as Q′
-use Rattle.file.specs.Reading.{readResult}
-use Rattle.file.proofs.ReadAnswer as An
-use Rattle.file.proofs.ReadAnswer.Laws as An′
-use Rattle.lists.specs.Loaded.{noTask, noResource}
-use Rattle.lists.proofs.Rows.{typed, as-records}
-use Rattle.lists.proofs.Calls.{Gives, Answer, asked}
-use Rattle.lists.proofs.Store.{Stored, stores}
-use Rattle.lists.proofs.Reading.{takenVal, walk as walked-once}
-use Rattle.lists.proofs.store_tasks as store-tasks
-use Rattle.lists.proofs.store_tasks.Symbol as store-tasks-def
-use Rattle.lists.proofs.store_tasks.Symbol.{name as #store-tasks}
-use Rattle.lists.proofs.store_tasks.Met as store-tasks-thm
-use Rattle.lists.proofs.store_resources as store-resources
-use Rattle.lists.proofs.store_resources.Symbol as store-resources-def
-use Rattle.lists.proofs.store_resources.Symbol.{name as #store-resources}
-use Rattle.lists.proofs.store_resources.Met as store-resources-thm
+use Rattle.format.specs.Reading.{readResult}
+use Rattle.format.proofs.ReadAnswer as An
+use Rattle.format.proofs.ReadAnswer.Laws as An′
+use Rattle.copies.specs.Loaded.{noTask, noResource}
+use Rattle.copies.proofs.Rows.{typed, as-records}
+use Rattle.copies.proofs.Calls.{Gives, Answer, asked}
+use Rattle.copies.proofs.Store.{Stored, stores}
+use Rattle.walks.proofs.Reading.{takenVal, walk as walked-once}
+use Rattle.copies.proofs.store_tasks as store-tasks
+use Rattle.copies.proofs.store_tasks.Symbol as store-tasks-def
+use Rattle.copies.proofs.store_tasks.Symbol.{name as #store-tasks}
+use Rattle.copies.proofs.store_tasks.Met as store-tasks-thm
+use Rattle.copies.proofs.store_resources as store-resources
+use Rattle.copies.proofs.store_resources.Symbol as store-resources-def
+use Rattle.copies.proofs.store_resources.Symbol.{name as #store-resources}
+use Rattle.copies.proofs.store_resources.Met as store-resources-thm
 use Rattle.lent.specs.declared.Taken.{Taken}
 use Rattle.lent.specs.Calls.{Takes}
 use Rattle.lent.proofs.Taken as Tk
@@ -166,6 +166,6 @@ read-spec 𝓤 H 𝓜 𝓖 𝓡 =
     entered 𝓤 H (tripleOf 𝓤 H (𝓖 .A) read.signature (read.spec 𝓤 H (𝓖 .A) (𝓜 .mem) (𝓡 .run)))
     (tables 𝓤 H 𝓜 𝓡 code.env .C) (tables 𝓤 H 𝓜 𝓡 code.env .Λ) #read code.function (code.unfolded 𝓤 H 𝓜 𝓡)
     (read-meets 𝓤 H (𝓖 .A) (givenOf 𝓤 H 𝓜 𝓖) (𝓜 .mem) (𝓡 .run) (tablesOf 𝓤 H 𝓜 (tables 𝓤 H 𝓜 𝓡 code.env))
-    (cited 𝓤 H (Stores-tasks 𝓤 H (𝓖 .A) (givenOf 𝓤 H 𝓜 𝓖) (𝓜 .mem) (𝓡 .run)) 𝓜 𝓡 code.env #store-tasks store-tasks-def.routine code.calls-lists·store-tasks (store-tasks-thm.met 𝓤 H 𝓜 𝓖 𝓡))
-    (cited 𝓤 H (Stores-resources 𝓤 H (𝓖 .A) (givenOf 𝓤 H 𝓜 𝓖) (𝓜 .mem) (𝓡 .run)) 𝓜 𝓡 code.env #store-resources store-resources-def.routine code.calls-lists·store-resources (store-resources-thm.met 𝓤 H 𝓜 𝓖 𝓡))
+    (cited 𝓤 H (Stores-tasks 𝓤 H (𝓖 .A) (givenOf 𝓤 H 𝓜 𝓖) (𝓜 .mem) (𝓡 .run)) 𝓜 𝓡 code.env #store-tasks store-tasks-def.routine code.calls-copies·store-tasks (store-tasks-thm.met 𝓤 H 𝓜 𝓖 𝓡))
+    (cited 𝓤 H (Stores-resources 𝓤 H (𝓖 .A) (givenOf 𝓤 H 𝓜 𝓖) (𝓜 .mem) (𝓡 .run)) 𝓜 𝓡 code.env #store-resources store-resources-def.routine code.calls-copies·store-resources (store-resources-thm.met 𝓤 H 𝓜 𝓖 𝓡))
     (cited 𝓤 H (Plan-taken 𝓤 H (𝓖 .A) (givenOf 𝓤 H 𝓜 𝓖) (𝓜 .mem) (𝓡 .run)) 𝓜 𝓡 code.env #take-plan take-plan-def.routine code.calls-lent·take-plan (take-plan-thm.met 𝓤 H 𝓜 𝓖 𝓡)))

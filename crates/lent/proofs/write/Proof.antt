@@ -40,27 +40,27 @@ use Rattle.plan.proofs.Resource as Q
 use Rattle.plan.proofs.Resource.Laws as Q′
 use Rattle.plan.proofs.Sense as S
 use Rattle.plan.proofs.Sense.Laws as S′
-use Rattle.file.specs.declared.WriteAnswer.{WriteAnswer}
-use Rattle.file.proofs.WriteAnswer as An
-use Rattle.file.proofs.WriteAnswer.Laws as An′
-use Rattle.lists.specs.declared.Resources.{Resources}
-use Rattle.lists.specs.declared.Tasks.{Tasks}
-use Rattle.lists.specs.Loaded.{noTask, noResource, loadedTasks, loadedResources}
-use Rattle.lists.proofs.Tasks as Ts
-use Rattle.lists.proofs.Tasks.Laws as Ts′
-use Rattle.lists.proofs.Resources as Qs
-use Rattle.lists.proofs.Resources.Laws as Qs′
-use Rattle.lists.proofs.Calls.{Gives}
-use Rattle.lists.proofs.Load.{loads}
-use Rattle.lists.proofs.Writing.{Written, walk as walked-once}
-use Rattle.lists.proofs.load_tasks as load-tasks
-use Rattle.lists.proofs.load_tasks.Symbol as load-tasks-def
-use Rattle.lists.proofs.load_tasks.Symbol.{name as #load-tasks}
-use Rattle.lists.proofs.load_tasks.Met as load-tasks-thm
-use Rattle.lists.proofs.load_resources as load-resources
-use Rattle.lists.proofs.load_resources.Symbol as load-resources-def
-use Rattle.lists.proofs.load_resources.Symbol.{name as #load-resources}
-use Rattle.lists.proofs.load_resources.Met as load-resources-thm
+use Rattle.format.specs.declared.WriteAnswer.{WriteAnswer}
+use Rattle.format.proofs.WriteAnswer as An
+use Rattle.format.proofs.WriteAnswer.Laws as An′
+use Rattle.copies.specs.declared.Resources.{Resources}
+use Rattle.copies.specs.declared.Tasks.{Tasks}
+use Rattle.copies.specs.Loaded.{noTask, noResource, loadedTasks, loadedResources}
+use Rattle.copies.proofs.Tasks as Ts
+use Rattle.copies.proofs.Tasks.Laws as Ts′
+use Rattle.copies.proofs.Resources as Qs
+use Rattle.copies.proofs.Resources.Laws as Qs′
+use Rattle.copies.proofs.Calls.{Gives}
+use Rattle.copies.proofs.Load.{loads}
+use Rattle.walks.proofs.Writing.{Written, walk as walked-once}
+use Rattle.copies.proofs.load_tasks as load-tasks
+use Rattle.copies.proofs.load_tasks.Symbol as load-tasks-def
+use Rattle.copies.proofs.load_tasks.Symbol.{name as #load-tasks}
+use Rattle.copies.proofs.load_tasks.Met as load-tasks-thm
+use Rattle.copies.proofs.load_resources as load-resources
+use Rattle.copies.proofs.load_resources.Symbol as load-resources-def
+use Rattle.copies.proofs.load_resources.Symbol.{name as #load-resources}
+use Rattle.copies.proofs.load_resources.Met as load-resources-thm
 use Rattle.lent.specs.Calls.{Writes}
 use Rattle.lent.proofs.write_loaded as write-loaded
 use Rattle.lent.proofs.write_loaded.Symbol as write-loaded-def
@@ -201,6 +201,6 @@ write-spec 𝓤 H 𝓜 𝓖 𝓡 =
     entered 𝓤 H (tripleOf 𝓤 H (𝓖 .A) write.signature (write.spec 𝓤 H (𝓖 .A) (𝓜 .mem) (𝓡 .run)))
     (tables 𝓤 H 𝓜 𝓡 code.env .C) (tables 𝓤 H 𝓜 𝓡 code.env .Λ) #write code.function (code.unfolded 𝓤 H 𝓜 𝓡)
     (write-meets 𝓤 H (𝓖 .A) (givenOf 𝓤 H 𝓜 𝓖) (𝓜 .mem) (𝓡 .run) (tablesOf 𝓤 H 𝓜 (tables 𝓤 H 𝓜 𝓡 code.env))
-    (cited 𝓤 H (Loads-tasks 𝓤 H (𝓖 .A) (givenOf 𝓤 H 𝓜 𝓖) (𝓜 .mem) (𝓡 .run)) 𝓜 𝓡 code.env #load-tasks load-tasks-def.routine code.calls-lists·load-tasks (load-tasks-thm.met 𝓤 H 𝓜 𝓖 𝓡))
-    (cited 𝓤 H (Loads-resources 𝓤 H (𝓖 .A) (givenOf 𝓤 H 𝓜 𝓖) (𝓜 .mem) (𝓡 .run)) 𝓜 𝓡 code.env #load-resources load-resources-def.routine code.calls-lists·load-resources (load-resources-thm.met 𝓤 H 𝓜 𝓖 𝓡))
+    (cited 𝓤 H (Loads-tasks 𝓤 H (𝓖 .A) (givenOf 𝓤 H 𝓜 𝓖) (𝓜 .mem) (𝓡 .run)) 𝓜 𝓡 code.env #load-tasks load-tasks-def.routine code.calls-copies·load-tasks (load-tasks-thm.met 𝓤 H 𝓜 𝓖 𝓡))
+    (cited 𝓤 H (Loads-resources 𝓤 H (𝓖 .A) (givenOf 𝓤 H 𝓜 𝓖) (𝓜 .mem) (𝓡 .run)) 𝓜 𝓡 code.env #load-resources load-resources-def.routine code.calls-copies·load-resources (load-resources-thm.met 𝓤 H 𝓜 𝓖 𝓡))
     (cited 𝓤 H (Loaded-written 𝓤 H (𝓖 .A) (givenOf 𝓤 H 𝓜 𝓖) (𝓜 .mem) (𝓡 .run)) 𝓜 𝓡 code.env #write-loaded write-loaded-def.routine code.calls-lent·write-loaded (write-loaded-thm.met 𝓤 H 𝓜 𝓖 𝓡)))

@@ -44,37 +44,37 @@ use Rattle.plan.proofs.Answer as A″
 use Rattle.plan.proofs.Answer.Laws as A′
 use Rattle.engine.specs.declared.Call.{Call}
 use Rattle.arrays.specs.declared.Ran.{Ran}
-use Rattle.lists.specs.Loaded.{noTask, loadedTasks, loadedResources, noResource}
+use Rattle.copies.specs.Loaded.{noTask, loadedTasks, loadedResources, noResource}
 use Rattle.lists.specs.Calls.{Runs, result}
 use Rattle.engine.proofs.Call as C″
 use Rattle.engine.proofs.Call.Laws as C′
-use Rattle.lists.proofs.Tasks as Ts
-use Rattle.lists.proofs.Tasks.Laws as Ts′
-use Rattle.lists.proofs.Resources as Qs
-use Rattle.lists.proofs.Resources.Laws as Qs′
+use Rattle.copies.proofs.Tasks as Ts
+use Rattle.copies.proofs.Tasks.Laws as Ts′
+use Rattle.copies.proofs.Resources as Qs
+use Rattle.copies.proofs.Resources.Laws as Qs′
 use Rattle.arrays.proofs.Ran as Rn
 use Rattle.arrays.proofs.Ran.Laws as Rn′
-use Rattle.lists.proofs.Rows.{typed, as-records}
-use Rattle.lists.proofs.Calls.{Answers, asked}
-use Rattle.lists.proofs.Load.{loads}
-use Rattle.lists.proofs.Store.{stores}
-use Rattle.lists.proofs.Applying.{ranVal, walk as walked-once}
-use Rattle.lists.proofs.load_tasks as load-tasks
-use Rattle.lists.proofs.load_tasks.Symbol as load-tasks-def
-use Rattle.lists.proofs.load_tasks.Symbol.{name as #load-tasks}
-use Rattle.lists.proofs.load_tasks.Met as load-tasks-thm
-use Rattle.lists.proofs.load_resources as load-resources
-use Rattle.lists.proofs.load_resources.Symbol as load-resources-def
-use Rattle.lists.proofs.load_resources.Symbol.{name as #load-resources}
-use Rattle.lists.proofs.load_resources.Met as load-resources-thm
+use Rattle.copies.proofs.Rows.{typed, as-records}
+use Rattle.copies.proofs.Calls.{Answers, asked}
+use Rattle.copies.proofs.Load.{loads}
+use Rattle.copies.proofs.Store.{stores}
+use Rattle.walks.proofs.Applying.{ranVal, walk as walked-once}
+use Rattle.copies.proofs.load_tasks as load-tasks
+use Rattle.copies.proofs.load_tasks.Symbol as load-tasks-def
+use Rattle.copies.proofs.load_tasks.Symbol.{name as #load-tasks}
+use Rattle.copies.proofs.load_tasks.Met as load-tasks-thm
+use Rattle.copies.proofs.load_resources as load-resources
+use Rattle.copies.proofs.load_resources.Symbol as load-resources-def
+use Rattle.copies.proofs.load_resources.Symbol.{name as #load-resources}
+use Rattle.copies.proofs.load_resources.Met as load-resources-thm
 use Rattle.lists.proofs.run as run
 use Rattle.lists.proofs.run.Symbol as run-def
 use Rattle.lists.proofs.run.Symbol.{name as #run}
 use Rattle.lists.proofs.run.Met as run-thm
-use Rattle.lists.proofs.store_tasks as store-tasks
-use Rattle.lists.proofs.store_tasks.Symbol as store-tasks-def
-use Rattle.lists.proofs.store_tasks.Symbol.{name as #store-tasks}
-use Rattle.lists.proofs.store_tasks.Met as store-tasks-thm
+use Rattle.copies.proofs.store_tasks as store-tasks
+use Rattle.copies.proofs.store_tasks.Symbol as store-tasks-def
+use Rattle.copies.proofs.store_tasks.Symbol.{name as #store-tasks}
+use Rattle.copies.proofs.store_tasks.Met as store-tasks-thm
 use Rattle.lists.proofs.apply.Key.{name as #apply}
 use Rattle.lists.proofs.apply as apply
 use Rattle.lists.proofs.apply.Statement as stated
@@ -179,7 +179,7 @@ apply-spec 𝓤 H 𝓜 𝓖 𝓡 =
     entered 𝓤 H (tripleOf 𝓤 H (𝓖 .A) apply.signature (apply.spec 𝓤 H (𝓖 .A) (𝓜 .mem) (𝓡 .run)))
     (tables 𝓤 H 𝓜 𝓡 code.env .C) (tables 𝓤 H 𝓜 𝓡 code.env .Λ) #apply code.function (code.unfolded 𝓤 H 𝓜 𝓡)
     (apply-meets 𝓤 H (𝓖 .A) (givenOf 𝓤 H 𝓜 𝓖) (𝓜 .mem) (𝓡 .run) (tablesOf 𝓤 H 𝓜 (tables 𝓤 H 𝓜 𝓡 code.env))
-    (cited 𝓤 H (Loads-tasks 𝓤 H (𝓖 .A) (givenOf 𝓤 H 𝓜 𝓖) (𝓜 .mem) (𝓡 .run)) 𝓜 𝓡 code.env #load-tasks load-tasks-def.routine code.calls-lists·load-tasks (load-tasks-thm.met 𝓤 H 𝓜 𝓖 𝓡))
-    (cited 𝓤 H (Loads-resources 𝓤 H (𝓖 .A) (givenOf 𝓤 H 𝓜 𝓖) (𝓜 .mem) (𝓡 .run)) 𝓜 𝓡 code.env #load-resources load-resources-def.routine code.calls-lists·load-resources (load-resources-thm.met 𝓤 H 𝓜 𝓖 𝓡))
+    (cited 𝓤 H (Loads-tasks 𝓤 H (𝓖 .A) (givenOf 𝓤 H 𝓜 𝓖) (𝓜 .mem) (𝓡 .run)) 𝓜 𝓡 code.env #load-tasks load-tasks-def.routine code.calls-copies·load-tasks (load-tasks-thm.met 𝓤 H 𝓜 𝓖 𝓡))
+    (cited 𝓤 H (Loads-resources 𝓤 H (𝓖 .A) (givenOf 𝓤 H 𝓜 𝓖) (𝓜 .mem) (𝓡 .run)) 𝓜 𝓡 code.env #load-resources load-resources-def.routine code.calls-copies·load-resources (load-resources-thm.met 𝓤 H 𝓜 𝓖 𝓡))
     (cited 𝓤 H (Run 𝓤 H (𝓖 .A) (givenOf 𝓤 H 𝓜 𝓖) (𝓜 .mem) (𝓡 .run)) 𝓜 𝓡 code.env #run run-def.routine code.calls-lists·run (run-thm.met 𝓤 H 𝓜 𝓖 𝓡))
-    (cited 𝓤 H (Stores-tasks 𝓤 H (𝓖 .A) (givenOf 𝓤 H 𝓜 𝓖) (𝓜 .mem) (𝓡 .run)) 𝓜 𝓡 code.env #store-tasks store-tasks-def.routine code.calls-lists·store-tasks (store-tasks-thm.met 𝓤 H 𝓜 𝓖 𝓡)))
+    (cited 𝓤 H (Stores-tasks 𝓤 H (𝓖 .A) (givenOf 𝓤 H 𝓜 𝓖) (𝓜 .mem) (𝓡 .run)) 𝓜 𝓡 code.env #store-tasks store-tasks-def.routine code.calls-copies·store-tasks (store-tasks-thm.met 𝓤 H 𝓜 𝓖 𝓡)))

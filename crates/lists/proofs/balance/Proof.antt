@@ -44,7 +44,7 @@ use Rattle.plan.proofs.Task as T
 use Rattle.engine.specs.declared.Call.the-variants.{Balance}
 use Rattle.engine.proofs.Call as C
 use Rattle.engine.proofs.Call.Laws as C′
-use Rattle.lists.proofs.Calls.{calls-told}
+use Rattle.copies.proofs.Calls.{calls-told}
 use Rattle.lists.proofs.Applied.{Apply, Applied, Lends, Has, applies, hands-back}
 use Rattle.lists.proofs.apply.Symbol as apply-def
 use Rattle.lists.proofs.apply.Symbol.{name as #apply}

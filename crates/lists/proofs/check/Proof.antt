@@ -38,23 +38,23 @@ use Rattle.plan.proofs.Resource as Q
 use Rattle.plan.proofs.Resource.Laws as Q′
 use Rattle.plan.proofs.Answer as An
 use Rattle.plan.proofs.Answer.Laws as An′
-use Rattle.lists.specs.Loaded.{noTask, noResource, loadedTasks, loadedResources}
+use Rattle.copies.specs.Loaded.{noTask, noResource, loadedTasks, loadedResources}
 use Rattle.lists.specs.Calls.{Checks}
-use Rattle.lists.proofs.Tasks as Ts
-use Rattle.lists.proofs.Tasks.Laws as Ts′
-use Rattle.lists.proofs.Resources as Qs
-use Rattle.lists.proofs.Resources.Laws as Qs′
-use Rattle.lists.proofs.Calls.{Answers, asked}
-use Rattle.lists.proofs.Load.{loads}
-use Rattle.lists.proofs.Checking.{walk as walked-once}
-use Rattle.lists.proofs.load_tasks as load-tasks
-use Rattle.lists.proofs.load_tasks.Symbol as load-tasks-def
-use Rattle.lists.proofs.load_tasks.Symbol.{name as #load-tasks}
-use Rattle.lists.proofs.load_tasks.Met as load-tasks-thm
-use Rattle.lists.proofs.load_resources as load-resources
-use Rattle.lists.proofs.load_resources.Symbol as load-resources-def
-use Rattle.lists.proofs.load_resources.Symbol.{name as #load-resources}
-use Rattle.lists.proofs.load_resources.Met as load-resources-thm
+use Rattle.copies.proofs.Tasks as Ts
+use Rattle.copies.proofs.Tasks.Laws as Ts′
+use Rattle.copies.proofs.Resources as Qs
+use Rattle.copies.proofs.Resources.Laws as Qs′
+use Rattle.copies.proofs.Calls.{Answers, asked}
+use Rattle.copies.proofs.Load.{loads}
+use Rattle.walks.proofs.Checking.{walk as walked-once}
+use Rattle.copies.proofs.load_tasks as load-tasks
+use Rattle.copies.proofs.load_tasks.Symbol as load-tasks-def
+use Rattle.copies.proofs.load_tasks.Symbol.{name as #load-tasks}
+use Rattle.copies.proofs.load_tasks.Met as load-tasks-thm
+use Rattle.copies.proofs.load_resources as load-resources
+use Rattle.copies.proofs.load_resources.Symbol as load-resources-def
+use Rattle.copies.proofs.load_resources.Symbol.{name as #load-resources}
+use Rattle.copies.proofs.load_resources.Met as load-resources-thm
 use Rattle.lists.proofs.checked as checked
 use Rattle.lists.proofs.checked.Symbol as checked-def
 use Rattle.lists.proofs.checked.Symbol.{name as #checked}
@@ -133,6 +133,6 @@ check-spec 𝓤 H 𝓜 𝓖 𝓡 =
     entered 𝓤 H (tripleOf 𝓤 H (𝓖 .A) check.signature (check.spec 𝓤 H (𝓖 .A) (𝓜 .mem) (𝓡 .run)))
     (tables 𝓤 H 𝓜 𝓡 code.env .C) (tables 𝓤 H 𝓜 𝓡 code.env .Λ) #check code.function (code.unfolded 𝓤 H 𝓜 𝓡)
     (check-meets 𝓤 H (𝓖 .A) (givenOf 𝓤 H 𝓜 𝓖) (𝓜 .mem) (𝓡 .run) (tablesOf 𝓤 H 𝓜 (tables 𝓤 H 𝓜 𝓡 code.env))
-    (cited 𝓤 H (Loads-tasks 𝓤 H (𝓖 .A) (givenOf 𝓤 H 𝓜 𝓖) (𝓜 .mem) (𝓡 .run)) 𝓜 𝓡 code.env #load-tasks load-tasks-def.routine code.calls-lists·load-tasks (load-tasks-thm.met 𝓤 H 𝓜 𝓖 𝓡))
-    (cited 𝓤 H (Loads-resources 𝓤 H (𝓖 .A) (givenOf 𝓤 H 𝓜 𝓖) (𝓜 .mem) (𝓡 .run)) 𝓜 𝓡 code.env #load-resources load-resources-def.routine code.calls-lists·load-resources (load-resources-thm.met 𝓤 H 𝓜 𝓖 𝓡))
+    (cited 𝓤 H (Loads-tasks 𝓤 H (𝓖 .A) (givenOf 𝓤 H 𝓜 𝓖) (𝓜 .mem) (𝓡 .run)) 𝓜 𝓡 code.env #load-tasks load-tasks-def.routine code.calls-copies·load-tasks (load-tasks-thm.met 𝓤 H 𝓜 𝓖 𝓡))
+    (cited 𝓤 H (Loads-resources 𝓤 H (𝓖 .A) (givenOf 𝓤 H 𝓜 𝓖) (𝓜 .mem) (𝓡 .run)) 𝓜 𝓡 code.env #load-resources load-resources-def.routine code.calls-copies·load-resources (load-resources-thm.met 𝓤 H 𝓜 𝓖 𝓡))
     (cited 𝓤 H (Checked 𝓤 H (𝓖 .A) (givenOf 𝓤 H 𝓜 𝓖) (𝓜 .mem) (𝓡 .run)) 𝓜 𝓡 code.env #checked checked-def.routine code.calls-lists·checked (checked-thm.met 𝓤 H 𝓜 𝓖 𝓡)))

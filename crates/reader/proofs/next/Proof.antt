@@ -40,18 +40,18 @@ use denote.Triple.Table.{entered, cited}
 use denote.Triple.Walked.{says, Stays, stay-none, walkOf, goes-none, Walks, ends-at, walked, walk-meets}
 use denote.Exit.{yes}
 use denote.Triple.Clauses.{ensured, lasts}
-use Rattle.file.specs.Reading.{recordAt, cursor}
-use Rattle.file.specs.declared.Cursor.{Cursor}
-use Rattle.file.specs.declared.Record.{Record}
-use Rattle.file.proofs.Cursor as C
-use Rattle.file.proofs.Cursor.Laws as C′
-use Rattle.file.proofs.Record as S
-use Rattle.file.proofs.Record.Laws as S′
-use Rattle.file.proofs.Cursor.next as step
-use Rattle.file.proofs.Cursor.next.Symbol as step-def
-use Rattle.file.proofs.Cursor.next.Symbol.{name as #step}
-use Rattle.file.proofs.Cursor.next.Met as step-thm
-use Rattle.lists.proofs.Calls.{Gives, Answer, asked, calls-told}
+use Rattle.cursor.specs.Handed.{recordAt, cursor}
+use Rattle.cursor.specs.declared.Cursor.{Cursor}
+use Rattle.cursor.specs.declared.Record.{Record}
+use Rattle.cursor.proofs.Cursor as C
+use Rattle.cursor.proofs.Cursor.Laws as C′
+use Rattle.cursor.proofs.Record as S
+use Rattle.cursor.proofs.Record.Laws as S′
+use Rattle.cursor.proofs.Cursor.next as step
+use Rattle.cursor.proofs.Cursor.next.Symbol as step-def
+use Rattle.cursor.proofs.Cursor.next.Symbol.{name as #step}
+use Rattle.cursor.proofs.Cursor.next.Met as step-thm
+use Rattle.copies.proofs.Calls.{Gives, Answer, asked, calls-told}
 use Rattle.reader.specs.declared.Reader.{Reader}
 use Rattle.reader.proofs.Reader as T
 use Rattle.reader.proofs.Reader.Laws as T′
@@ -158,4 +158,4 @@ next-spec 𝓤 H 𝓜 𝓖 𝓡 =
     entered 𝓤 H (tripleOf 𝓤 H (𝓖 .A) next.signature (next.spec 𝓤 H (𝓖 .A) (𝓜 .mem) (𝓡 .run)))
     (tables 𝓤 H 𝓜 𝓡 code.env .C) (tables 𝓤 H 𝓜 𝓡 code.env .Λ) #next code.function (code.unfolded 𝓤 H 𝓜 𝓡)
     (next-meets 𝓤 H (𝓖 .A) (givenOf 𝓤 H 𝓜 𝓖) (𝓜 .mem) (𝓡 .run) (tablesOf 𝓤 H 𝓜 (tables 𝓤 H 𝓜 𝓡 code.env))
-    (cited 𝓤 H (Step 𝓤 H (𝓖 .A) (givenOf 𝓤 H 𝓜 𝓖) (𝓜 .mem) (𝓡 .run)) 𝓜 𝓡 code.env #step step-def.routine code.calls-file·Cursor·next (step-thm.met 𝓤 H 𝓜 𝓖 𝓡)))
+    (cited 𝓤 H (Step 𝓤 H (𝓖 .A) (givenOf 𝓤 H 𝓜 𝓖) (𝓜 .mem) (𝓡 .run)) 𝓜 𝓡 code.env #step step-def.routine code.calls-cursor·Cursor·next (step-thm.met 𝓤 H 𝓜 𝓖 𝓡)))

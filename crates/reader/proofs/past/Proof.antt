@@ -33,9 +33,9 @@ use denote.Triple.Spec.{Meets, tripleOf}
 use denote.Triple.Table.{entered}
 use denote.Triple.Walked.{says, Stays, stay-none, walkOf, goes-none, Walks, ends-at, walked, walk-meets}
 use denote.Exit.{yes}
-use Rattle.file.specs.declared.Cursor.{Cursor}
-use Rattle.file.proofs.Cursor as C
-use Rattle.file.proofs.Cursor.Laws as C′
+use Rattle.cursor.specs.declared.Cursor.{Cursor}
+use Rattle.cursor.proofs.Cursor as C
+use Rattle.cursor.proofs.Cursor.Laws as C′
 use Rattle.reader.specs.declared.Reader.{Reader}
 use Rattle.reader.proofs.Reader as T
 use Rattle.reader.proofs.Reader.Laws as T′

@@ -14,8 +14,8 @@ use Rattle.rules.specs.Calls.Checked.{Accepted}
 use Rattle.rows.specs.View.{tasksOf, resourcesOf}
 use Rattle.rows.proofs.View.{tasks-take, resources-take}
 use Rattle.rows.proofs.Fits.{accepts}
-use Rattle.file.specs.declared.ReadAnswer.{ReadAnswer}
-use Rattle.file.specs.Reading.{Read, readPlan}
+use Rattle.format.specs.declared.ReadAnswer.{ReadAnswer}
+use Rattle.format.specs.Reading.{Read, readPlan}
 use Rattle.gristwaltz.proofs.Files.{Got, got, got-none, got-accepted}
 use Rattle.text.proofs.Texts.{put-wider}
 use Rattle.report.specs.Report.{resultText, readText, reportOf, mostText}

@@ -1,6 +1,6 @@
 -- One test after another.
 use borrow.Author.Tests.{lt-ltb, le-ltb, eq-eqb, ne-eqb}
-use Rattle.file.specs.Reading.{headerDue}
+use Rattle.format.specs.Reading.{headerDue}
 use Rattle.file.proofs.reader.check_header.Statement.{statement}
 use Rattle.file.proofs.reader.check_header.Tie as tie
 

@@ -6,7 +6,7 @@ use mathlib.Core.List.{[]}
 use Prim.Native.Nat.{_-_, _≤_}
 use lib.ListN.{length, take, drop, length-set}
 use lib.Seq.{sets}
-use Rattle.file.proofs.Stores.{copy-step, copy-end}
+use Rattle.format.proofs.Stores.{copy-step, copy-end}
 use Rattle.file.proofs.reader.copy_resources.Statement.{statement}
 use Rattle.file.proofs.reader.copy_resources.Tie as tie
 

@@ -13,12 +13,12 @@ use Rattle.rows.specs.View.{tasksOf, resourcesOf}
 use Rattle.rows.proofs.View.{length-tasks, length-resources, tasks-take, resources-take}
 use Rattle.entry.specs.Checks.{checkedOf}
 use Rattle.plan.specs.declared.Sense.{Sense}
-use Rattle.file.specs.declared.Header.{Header}
-use Rattle.file.specs.declared.ReadAnswer.{ReadAnswer}
-use Rattle.file.specs.Format.{senseFrom}
-use Rattle.file.specs.Reading.{Read, bodyDue, resourcesIn, tasksIn, readAfter, readAnswer}
-use Rattle.file.proofs.Stores.{taken}
-use Rattle.file.proofs.Files.{length-resourcesIn, length-tasksIn, stands-not, stands-is}
+use Rattle.format.specs.declared.Header.{Header}
+use Rattle.format.specs.declared.ReadAnswer.{ReadAnswer}
+use Rattle.format.specs.Format.{senseFrom}
+use Rattle.format.specs.Reading.{Read, bodyDue, resourcesIn, tasksIn, readAfter, readAnswer}
+use Rattle.format.proofs.Stores.{taken}
+use Rattle.format.proofs.Files.{length-resourcesIn, length-tasksIn, stands-not, stands-is}
 use borrow.Author.Needs.{needs}
 use Rattle.file.proofs.reader.read_after.Statement.{statement}
 use Rattle.file.proofs.reader.read_after.Tie as tie

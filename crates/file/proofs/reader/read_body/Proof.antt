@@ -4,11 +4,12 @@ use lib.ListN.{length, drop}
 use lib.Dec.{ltb}
 use Rattle.plan.specs.declared.Refusal.the-variants.{CutShort}
 use Rattle.rules.specs.Calls.{Checked, orElse, refuseIf}
-use Rattle.file.specs.declared.Mark.the-variants.{RS, TK}
-use Rattle.file.specs.declared.Cursor.{Cursor}
-use Rattle.file.specs.Reading.{eachDue, tasksFrom, fileEnd, bodyDue, resourcesIn, tasksIn, cursor}
-use Rattle.file.proofs.Records.{then-first, then-second, not-both}
-use Rattle.file.proofs.Runs.{run-refused, run-past}
+use Rattle.format.specs.declared.Mark.the-variants.{RS, TK}
+use Rattle.cursor.specs.declared.Cursor.{Cursor}
+use Rattle.format.specs.Reading.{eachDue, tasksFrom, fileEnd, bodyDue, resourcesIn, tasksIn}
+use Rattle.cursor.specs.Handed.{cursor}
+use Rattle.format.proofs.Records.{then-first, then-second, not-both}
+use Rattle.cursor.proofs.Due.{run-refused, run-past}
 use borrow.Author.Needs.{needs}
 use Rattle.file.proofs.reader.read_body.Statement.{statement}
 use Rattle.file.proofs.reader.read_body.Tie as tie

@@ -5,10 +5,11 @@ use mathlib.Core.List.{List}
 use Prim.Native.Nat.{ℕ}
 use Rattle.rules.specs.Calls.{Checked}
 use Rattle.entry.specs.Checks.{checkedOf}
-use Rattle.file.specs.declared.Mark.the-variants.{PL}
-use Rattle.file.specs.Reading.{Read, due, headerIn, shapeDue, readAfter, readPlan, readAnswer, recordAt}
-use Rattle.file.proofs.Handed.{plan-taken, plan-refused}
-use Rattle.file.proofs.Files.{stands-not, few}
+use Rattle.format.specs.declared.Mark.the-variants.{PL}
+use Rattle.format.specs.Reading.{Read, due, headerIn, shapeDue, readAfter, readPlan, readAnswer}
+use Rattle.cursor.specs.Handed.{recordAt}
+use Rattle.cursor.proofs.Due.{plan-taken, plan-refused}
+use Rattle.format.proofs.Files.{stands-not, few}
 use borrow.Author.Needs.{needs}
 use Rattle.file.proofs.reader.read_plan.Statement.{statement}
 use Rattle.file.proofs.reader.read_plan.Tie as tie

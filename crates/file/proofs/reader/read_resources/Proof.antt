@@ -7,13 +7,13 @@ use borrow.Author.Needs.{needs}
 use Rattle.rows.specs.View.{resourcesOf}
 use Rattle.rows.proofs.View.{length-resources}
 use Rattle.plan.specs.declared.Resource.{Resource}
-use Rattle.file.specs.declared.Mark.the-variants.{RS}
-use Rattle.file.specs.declared.Run.{Run}
-use Rattle.file.specs.Format.{resourceFrom}
-use Rattle.file.specs.Reading.{recordAt, cursor}
-use Rattle.file.proofs.Records.{not-both}
-use Rattle.file.proofs.Handed.{resource-taken, resource-refused}
-use Rattle.file.proofs.Runs.{Reading, reading-starts, reading-goes-on, reading-refused, reading-ends}
+use Rattle.format.specs.declared.Mark.the-variants.{RS}
+use Rattle.cursor.specs.declared.Run.{Run}
+use Rattle.format.specs.Format.{resourceFrom}
+use Rattle.cursor.specs.Handed.{recordAt, cursor}
+use Rattle.format.proofs.Records.{not-both}
+use Rattle.cursor.proofs.Due.{resource-taken, resource-refused}
+use Rattle.format.proofs.Runs.{Reading, reading-starts, reading-goes-on, reading-refused, reading-ends}
 use Rattle.file.proofs.reader.read_resources.Statement.{statement}
 use Rattle.file.proofs.reader.read_resources.Tie as tie
 

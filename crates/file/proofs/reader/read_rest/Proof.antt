@@ -4,11 +4,12 @@ use Prim.Native.Nat.{ℕ, _+_, _*_}
 use lib.ListN.{length, drop}
 use borrow.Author.Tests.{lt-ltb, le-ltb}
 use Rattle.rules.specs.Calls.{Checked}
-use Rattle.file.specs.declared.Mark.the-variants.{TK}
-use Rattle.file.specs.declared.Cursor.{Cursor}
-use Rattle.file.specs.declared.Run.{Run}
-use Rattle.file.specs.Reading.{eachDue, cursor, through}
-use Rattle.file.proofs.Runs.{run-refused, run-past}
+use Rattle.format.specs.declared.Mark.the-variants.{TK}
+use Rattle.cursor.specs.declared.Cursor.{Cursor}
+use Rattle.cursor.specs.declared.Run.{Run}
+use Rattle.format.specs.Reading.{eachDue}
+use Rattle.cursor.specs.Handed.{cursor, through}
+use Rattle.cursor.proofs.Due.{run-refused, run-past}
 use borrow.Author.Needs.{needs}
 use Rattle.file.proofs.reader.read_rest.Statement.{statement}
 use Rattle.file.proofs.reader.read_rest.Tie as tie

@@ -7,13 +7,13 @@ use borrow.Author.Needs.{needs}
 use Rattle.rows.specs.View.{tasksOf}
 use Rattle.rows.proofs.View.{length-tasks}
 use Rattle.plan.specs.declared.Task.{Task}
-use Rattle.file.specs.declared.Mark.the-variants.{TK}
-use Rattle.file.specs.declared.Run.{Run}
-use Rattle.file.specs.Format.{taskFrom}
-use Rattle.file.specs.Reading.{recordAt, cursor}
-use Rattle.file.proofs.Records.{not-both}
-use Rattle.file.proofs.Handed.{task-taken, task-refused}
-use Rattle.file.proofs.Runs.{Reading, reading-starts, reading-goes-on, reading-refused, reading-ends}
+use Rattle.format.specs.declared.Mark.the-variants.{TK}
+use Rattle.cursor.specs.declared.Run.{Run}
+use Rattle.format.specs.Format.{taskFrom}
+use Rattle.cursor.specs.Handed.{recordAt, cursor}
+use Rattle.format.proofs.Records.{not-both}
+use Rattle.cursor.proofs.Due.{task-taken, task-refused}
+use Rattle.format.proofs.Runs.{Reading, reading-starts, reading-goes-on, reading-refused, reading-ends}
 use Rattle.file.proofs.reader.read_tasks.Statement.{statement}
 use Rattle.file.proofs.reader.read_tasks.Tie as tie
 

@@ -2,7 +2,7 @@
 use mathlib.Core.Path.{_≡_, refl}
 use Prim.Native.Nat.{ℕ, zero, suc}
 use Rattle.plan.specs.declared.Sense.the-variants.{AtLeast}
-use Rattle.file.specs.Format.{senseFrom}
+use Rattle.format.specs.Format.{senseFrom}
 use borrow.Author.Needs.{needs}
 use Rattle.file.proofs.reader.sense_of.Statement.{statement}
 use Rattle.file.proofs.reader.sense_of.Tie as tie

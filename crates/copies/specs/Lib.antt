@@ -1,0 +1,2 @@
+-- What is loaded of a lent list.
+pub mod Loaded

@@ -1,0 +1,2 @@
+-- Laws of the cursor.
+pub mod Due

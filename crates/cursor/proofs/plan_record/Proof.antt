@@ -1,0 +1,20 @@
+-- Cut short, or whole.
+use borrow.Author.Tests.{lt-ltb, le-ltb}
+use borrow.Author.Needs.{needs}
+use Rattle.cursor.proofs.plan_record.Statement.{statement}
+use Rattle.cursor.proofs.plan_record.Tie as tie
+
+returns : tie.Need-returns
+returns c = rw (lt-ltb _ _ (c .if1 .taken))
+
+header-of-requires : tie.Need-header-of-requires
+header-of-requires c κs = search needs
+
+add-t3 : tie.Need-add-t3
+add-t3 c = search needs
+
+returns-2 : tie.Need-returns-2
+returns-2 c = rw (le-ltb _ _ (c .before .if1 .left), c .header-of .ensures)
+
+pub plan-record-spec : {M : Type 1} → statement M
+plan-record-spec = tie.close (tie.spec returns header-of-requires add-t3 returns-2)

@@ -1,0 +1,20 @@
+-- Cut short, or whole.
+use borrow.Author.Tests.{lt-ltb, le-ltb}
+use borrow.Author.Needs.{needs}
+use Rattle.cursor.proofs.task_record.Statement.{statement}
+use Rattle.cursor.proofs.task_record.Tie as tie
+
+returns : tie.Need-returns
+returns c = rw (lt-ltb _ _ (c .if1 .taken))
+
+task-of-requires : tie.Need-task-of-requires
+task-of-requires c κs = search needs
+
+add-t3 : tie.Need-add-t3
+add-t3 c = search needs
+
+returns-2 : tie.Need-returns-2
+returns-2 c = rw (le-ltb _ _ (c .before .if1 .left), c .task-of .ensures)
+
+pub task-record-spec : {M : Type 1} → statement M
+task-record-spec = tie.close (tie.spec returns task-of-requires add-t3 returns-2)

@@ -1,0 +1,2 @@
+-- What the cursor hands out.
+pub mod Handed

@@ -1,0 +1,30 @@
+-- Four bytes: the low two, then the high two.
+use native.Mathlib.Omega.{arith}
+use Rattle.format.proofs.Numbers.{room, number-split}
+use borrow.Author.Needs.{needs}
+use Rattle.format.proofs.fields.four_at.Statement.{statement}
+use Rattle.format.proofs.fields.four_at.Tie as tie
+
+two-at-requires : tie.Need-two-at-requires
+two-at-requires c κs = search needs
+
+add-two-at : tie.Need-add-two-at
+add-two-at c = search needs
+
+two-at-requires-2 : tie.Need-two-at-requires-2
+two-at-requires-2 c κs = search needs
+
+mul-result : tie.Need-mul-result
+mul-result c = search needs
+
+add-result : tie.Need-add-result
+add-result c = search needs
+
+returns : tie.Need-returns
+unfolding room
+returns c = let a = c .before .before .before .args in
+    omega (arith, c .before .two-at .ensures .0, c .two-at2 .ensures .0, number-split 2 2 (a .at) (a .b .now) (omega arith))
+
+pub four-at-spec : {M : Type 1} → statement M
+four-at-spec =
+    tie.close (tie.spec two-at-requires add-two-at two-at-requires-2 mul-result add-result returns)

@@ -1,0 +1,104 @@
+-- The table of the page's "Plan file": each record's mark, and the width in bytes of each field after it. Sizes and places of fields
+-- all come from here.
+use mathlib.Core.List.{List, [], _∷_, _++_}
+use Prim.Native.Nat.{ℕ, zero, suc, _+_}
+use lib.ListN.{getD, take, drop}
+use Rattle.plan.specs.declared.Task.{Task}
+use Rattle.plan.specs.declared.Resource.{Resource}
+use Rattle.plan.specs.declared.Span.{Span}
+use Rattle.plan.specs.declared.PowerSpan.{PowerSpan}
+use Rattle.plan.specs.declared.Sense.{Sense}
+use Rattle.plan.specs.declared.Sense.the-variants.{AtMost, AtLeast}
+use Rattle.plan.specs.Days.{day}
+use Rattle.plan.specs.Powers.{power}
+use Rattle.format.specs.declared.Mark.{Mark}
+use Rattle.format.specs.declared.Mark.the-variants.{PL, RS, TK}
+use Rattle.format.specs.declared.Header.{Header}
+use Rattle.format.specs.Numbers.{bytesOf, numberOf, signedOf, unsignedOf}
+
+-- "Each record begins with two mark bytes (ASCII)."
+abbrev pub mark : Mark → List ℕ
+mark PL = 80 ∷ 76 ∷ []
+mark RS = 82 ∷ 83 ∷ []
+mark TK = 84 ∷ 75 ∷ []
+
+-- PL: "sense 1, resource count 1, task count 2"; RS: "identifier 4, limit 4";
+-- TK: "set 2, then low and high, 4 each, of origin, duration, end, height"
+abbrev pub widths : Mark → List ℕ
+widths PL = 1 ∷ 1 ∷ 2 ∷ []
+widths RS = 4 ∷ 4 ∷ []
+widths TK = 2 ∷ 4 ∷ 4 ∷ 4 ∷ 4 ∷ 4 ∷ 4 ∷ 4 ∷ 4 ∷ []
+
+abbrev pub total : List ℕ → ℕ
+total [] = 0
+total (w ∷ ws) = w + total ws
+
+-- "total": 6, 10 and 36
+abbrev pub size : Mark → ℕ
+size k = 2 + total (widths k)
+
+-- ---- a record's bytes from its numbers, and its numbers from its bytes
+unfoldable pub fieldBytes : List ℕ → List ℕ → List ℕ
+fieldBytes [] ns = []
+fieldBytes (w ∷ ws) [] = []
+fieldBytes (w ∷ ws) (n ∷ ns) = bytesOf w n ++ fieldBytes ws ns
+
+unfoldable pub recordBytes : Mark → List ℕ → List ℕ
+recordBytes k ns = mark k ++ fieldBytes (widths k) ns
+
+unfoldable pub fieldsIn : List ℕ → List ℕ → List ℕ
+fieldsIn [] bs = []
+fieldsIn (w ∷ ws) bs = numberOf (take w bs) ∷ fieldsIn ws (drop w bs)
+
+unfoldable pub numbersIn : Mark → List ℕ → List ℕ
+numbersIn k bs = fieldsIn (widths k) (drop 2 bs)
+
+-- ---- what the numbers of a record stand for
+abbrev pub field : List ℕ → ℕ → ℕ
+field ns k = getD ns k 0
+
+unfoldable pub headerNumbers : Header → List ℕ
+headerNumbers h = h .sense ∷ h .resources ∷ h .tasks ∷ []
+
+unfoldable pub headerFrom : List ℕ → Header
+headerFrom ns = record { sense = field ns 0; resources = field ns 1; tasks = field ns 2 }
+
+unfoldable pub resourceNumbers : Resource → List ℕ
+resourceNumbers q = unsignedOf (q .id) ∷ unsignedOf (q .limit .0) ∷ []
+
+unfoldable pub resourceFrom : List ℕ → Resource
+resourceFrom ns = record { id = signedOf (field ns 0); limit = power (signedOf (field ns 1)) }
+
+unfoldable pub taskNumbers : Task → List ℕ
+taskNumbers t =
+    t .set
+    ∷ unsignedOf (t .origin .low .0) ∷ unsignedOf (t .origin .high .0)
+    ∷ unsignedOf (t .duration .low .0) ∷ unsignedOf (t .duration .high .0)
+    ∷ unsignedOf (t .end .low .0) ∷ unsignedOf (t .end .high .0)
+    ∷ unsignedOf (t .height .low .0) ∷ unsignedOf (t .height .high .0) ∷ []
+
+-- the range whose low and high are the fields k and m
+abbrev pub daysFrom : List ℕ → ℕ → ℕ → Span
+daysFrom ns k m = record { low = day (signedOf (field ns k)); high = day (signedOf (field ns m)) }
+
+abbrev pub powersFrom : List ℕ → ℕ → ℕ → PowerSpan
+powersFrom ns k m = record { low = power (signedOf (field ns k)); high = power (signedOf (field ns m)) }
+
+unfoldable pub taskFrom : List ℕ → Task
+taskFrom ns =
+    record {
+      set = field ns 0;
+      origin = daysFrom ns 1 2;
+      duration = daysFrom ns 3 4;
+      end = daysFrom ns 5 6;
+      height = powersFrom ns 7 8;
+    }
+
+-- "A sense for the whole plan: 0 at most, 1 at least"
+abbrev pub senseNumber : Sense → ℕ
+senseNumber AtMost = 0
+senseNumber AtLeast = 1
+
+abbrev pub senseFrom : ℕ → Sense
+senseFrom zero = AtMost
+senseFrom (suc n) = AtLeast

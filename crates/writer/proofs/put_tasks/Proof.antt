@@ -1,0 +1,82 @@
+-- The records still to be stored, put into the buffer as it is now, give the buffer with all of them.
+use native.Mathlib.Omega.{arith}
+use mathlib.Core.Path.{sym, ap, subst, _∙_}
+use Prim.Native.Nat.{_-_}
+use lib.ListN.{length}
+use lib.Seq.{sets}
+use borrow.Author.Needs.{needs}
+use Rattle.plan.specs.declared.Task.{Task}
+use Rattle.rows.specs.View.{tasksOf, noTask}
+use Rattle.rows.proofs.View.{length-tasks}
+use Rattle.format.specs.declared.Mark.the-variants.{TK}
+use Rattle.format.specs.Format.{recordBytes, taskNumbers}
+use Rattle.format.specs.Writing.{TaskSmall}
+use Rattle.format.proofs.Passed.{task-held}
+use Rattle.format.proofs.Runs.{each-at, Storing, storing-starts, storing-goes-on, storing-ends}
+use Rattle.writer.proofs.put_tasks.Statement.{statement}
+use Rattle.writer.proofs.put_tasks.Tie as tie
+
+abbrev Inv-loop : tie.InvT-loop
+Inv-loop b₀ from s at₀ i₀ b at i = Storing TK taskNumbers (tasksOf s) b₀ from i at b
+
+abbrev μ-loop : tie.MeasureT-loop
+μ-loop b₀ from s at₀ i₀ b at i = length s - i
+
+-- each that is stored fits its record
+small : (c : tie.After-task-at Inv-loop μ-loop) → TaskSmall (c .task-at .result)
+small c =
+    let s = c .before .before .before .before .before in
+    let l = c .before .before .before .loop in
+    subst (λ (x : Task). TaskSmall x) (sym (c .task-at .ensures))
+    (each-at (s .pre .1) (l .i) noTask (omega (arith, length-tasks (s .args .s .now), c .before .before .loop-test)))
+
+loop-holds : tie.Need-loop-holds Inv-loop μ-loop
+loop-holds c = let s = c .before in storing-starts TK taskNumbers (tasksOf (s .args .s .now)) (s .args .b .now) (s .args .from)
+
+task-at-requires : tie.Need-task-at-requires Inv-loop μ-loop
+task-at-requires c κs = search needs
+
+put-task-requires : tie.Need-put-task-requires Inv-loop μ-loop
+put-task-requires c κs = (omega arith, small c)
+
+add-at : tie.Need-add-at Inv-loop μ-loop
+add-at c = omega arith
+
+add-i : tie.Need-add-i Inv-loop μ-loop
+add-i c = omega arith
+
+loop-less : tie.Need-loop-less Inv-loop μ-loop
+loop-less c = omega arith
+
+loop-again : tie.Need-loop-again Inv-loop μ-loop
+loop-again c =
+    let s = c .before .before .before .before .before .before .before .before in
+    let l = c .before .before .before .before .before .before .loop in
+    let got = c .before .before .before .task-at in
+    let e = c .before .before .put-task .ensures ∙ ap (λ (x : Task). sets (l .b) (l .at) (recordBytes TK (taskNumbers x))) (got .ensures) in
+    let held = task-held _ (subst (λ (x : Task). TaskSmall x) (got .ensures) (small (c .before .before .before))) in
+    storing-goes-on TK taskNumbers (tasksOf (s .args .s .now)) (s .args .b .now) (s .args .from) noTask (l .inv) (omega (arith, length-tasks (s .args .s .now))) held e
+
+same-length : tie.Need-same-length Inv-loop μ-loop
+same-length c = search needs
+
+returns : tie.Need-returns Inv-loop μ-loop
+returns c =
+    let s = c .before .before .before in
+    storing-ends TK taskNumbers (tasksOf (s .args .s .now)) (s .args .b .now) (s .args .from) (c .before .loop .inv) (omega (arith, length-tasks (s .args .s .now)))
+
+pub put-tasks-spec : {M : Type 1} → statement M
+put-tasks-spec =
+    tie.close
+    (tie.spec
+    Inv-loop
+    μ-loop
+    loop-holds
+    task-at-requires
+    put-task-requires
+    add-at
+    add-i
+    loop-less
+    loop-again
+    same-length
+    returns)
