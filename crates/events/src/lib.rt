@@ -215,7 +215,7 @@ fn put_events(keys: &mut [u64], n: usize, t: Task, r: u64) -> usize
     n
 }
 
-fn bar_of(t: Task) -> Power
+pub fn bar_of(t: Task) -> Power
     requires { ⌜ rangesFit t ≡ true ⌝ }
     ensures { λ r. ⌜ r ≡ power (barOf t) ⌝ }
 {
@@ -223,7 +223,7 @@ fn bar_of(t: Task) -> Power
     Power(0).larger(high.negated())
 }
 
-fn lift_of(t: Task) -> Power
+pub fn lift_of(t: Task) -> Power
     requires { ⌜ rangesFit t ≡ true ⌝ }
     ensures { λ r. ⌜ r ≡ power (liftOf t) ⌝ }
 {

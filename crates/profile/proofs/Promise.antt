@@ -36,7 +36,8 @@ use Rattle.events.proofs.Covers.{Covers, common-over, common-covers, common-dat
 use Rattle.profile.specs.declared.Level.{Level}
 use Rattle.profile.specs.Sweep.{level, tightIn, swept, Sweeps}
 use Rattle.profile.specs.Promise.{Bounded, FirstShort, Profile}
-use Rattle.profile.proofs.OnDay.{possible-has, possible-first, possible-last, sure-possible, hope-positive, hope-sure, hope-none, counts-in, counts-out, total-near}
+use Rattle.profile.proofs.OnDay.{possible-has, possible-first, possible-last, sure-possible, counts-out, total-near}
+use Rattle.profile.proofs.Calm.{calm-quiet}
 use Rattle.profile.proofs.Spread.{levelOn, Told, Spread, on-first, on-last, on-in, chain-ordered, chain-rises, swept-spread}
 
 -- ---- keys in another order
@@ -181,63 +182,15 @@ module _ (r : ℕ) (x : ℤ) (ts : List Task) (f : Each Fit ts) (ls : List ℕ) 
         let g = spread .calm i (omega z) (omega z) off in
         (rw (slack-is i) at (g .bar), rw (tight-is i) at (g .lift))
 
-    -- where the day counts, the slack is as large as any lift here
-    calm-tight : possible r i t ≡ true → counts r ts i ≡ true → here .lift .0 ≤ℤ slackOn r limit ts i
-    unfolding tightOn
-    calm-tight p c = rw c at (calm p .1)
-
-    unbarred : barred r limit ts t i ≡ false
-    unfolding barred others slackOn barOf
-    unbarred =
-        by-cases (possible r i t)
-        (λ p.
-        let h = t .height .high .0 in
-        let c = covered k (possible-has r i t p) .bar in
-        let l = calm p .0 in
-        rw (
-          p,
-          ltZ-out ((total r ts i -ℤ hope r i t) +ℤ h) x
-              (by-cases (sure r i t)
-              (λ e. let g = hope-sure r i t (fit k) e in omega (z, maxz (pos 0) (negℤ h), ~z h, -z (total r ts i) (hope r i t), +z (total r ts i -ℤ hope r i t) h, -z (total r ts i) x))
-              (λ e.
-              by-cases (ltZ (pos 0) h)
-              (λ q. let g = hope-positive r i t q p in omega (z, maxz (pos 0) (negℤ h), ~z h, -z (total r ts i) (hope r i t), +z (total r ts i -ℤ hope r i t) h, -z (total r ts i) x))
-              (λ q. let g = hope-none r i t q e in omega (z, maxz (pos 0) (negℤ h), ~z h, -z (total r ts i) (hope r i t), +z (total r ts i -ℤ hope r i t) h, -z (total r ts i) x)))),
-        ))
-        (λ p. rw p)
-
-    unneeded : needed r limit ts t i ≡ false
-    unfolding needed others slackOn liftOf
-    unneeded =
-        by-cases (counts r ts i)
-        (λ c.
-        by-cases (possible r i t)
-        (λ p.
-        by-cases (ltZ (pos 0) (t .height .high .0))
-        (λ q.
-        let h = t .height .high .0 in
-        let m = t .height .low .0 in
-        let l = covered k (possible-has r i t p) .lift in
-        let n = calm-tight p c in
-        let g = hope-positive r i t q p in
-        rw (c, p, q, ltZ-out (total r ts i -ℤ hope r i t) x (omega (z, maxz h (h -ℤ m), -z h m, -z (total r ts i) (hope r i t), -z (total r ts i) x))))
-        (λ q. rw (c, p, q)))
-        (λ p. rw (c, p)))
-        (λ c. rw c)
-
-    unlifted : sure r i t ≡ true → (x -ℤ others r ts t i) ≤ℤ t .height .low .0
-    unfolding others slackOn liftOf
-    unlifted e =
-        let h = t .height .high .0 in
-        let m = t .height .low .0 in
-        let p = sure-possible r i t (fit k) e in
-        let l = covered k (possible-has r i t p) .lift in
-        let n = calm-tight p (counts-in r i k e) in
-        let g = hope-sure r i t (fit k) e in
-        omega (z, maxz h (h -ℤ m), -z h m, -z (total r ts i) (hope r i t), -z (total r ts i) x, -z x (total r ts i -ℤ hope r i t))
-
     quiet : Quiet r limit ts t i
-    quiet = record { unneeded = unneeded; unbarred = unbarred; unlifted = unlifted }
+    quiet =
+        calm-quiet r limit ts (fit k) k i
+        (λ p.
+        let c = covered k (possible-has r i t p) in
+        let a = c .bar in
+        let b = c .lift in
+        let g = calm p in
+        (omega (z, a, g .0), omega (z, b, g .1)))
 
   pub tells : {t : Task} → In t ts → Tells r limit ts t told
   tells {t} k =

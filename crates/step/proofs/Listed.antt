@@ -1,4 +1,4 @@
--- The task at a place is one of the tasks, and what narrowing it gives is what the page gives; one that may not stand here stays.
+-- The task at a place is one of the tasks, and what narrowing it gives is what the page gives; one that no stretch can touch stays.
 use mathlib.Core.Path.{_≡_, refl, sym, ap, _∙_, subst}
 use mathlib.Core.Bool.{Bool, true, false}
 use mathlib.Core.List.{List, [], _∷_}
@@ -9,8 +9,11 @@ use lib.Dec.{eqb}
 use lib.IntN.{ℤ}
 use lib.ListN.{length, drop, getD}
 use lib.Seq.{drop-drop}
-use Rattle.integers.specs.Tests.{if, any}
-use Rattle.integers.proofs.Tests.{clash, false-in}
+use lib.Signed.{_≤ℤ_, ltZ}
+use Rattle.integers.specs.Tests.{if, or, any}
+use Rattle.integers.proofs.Z.{z}
+use Rattle.integers.proofs.Tests.{clash, by-cases, if-case, false-in, or-first, or-left}
+use Rattle.plan.specs.declared.Power.{Power}
 use Rattle.plan.specs.declared.Task.{Task}
 use Rattle.plan.specs.declared.Narrowed.{Narrowed}
 use Rattle.plan.specs.declared.Narrowed.the-variants.{Kept}
@@ -19,6 +22,7 @@ use Rattle.plan.proofs.Sets.{eqb-true}
 use Rattle.rules.specs.Balance.{Outcome, each}
 use Rattle.rules.specs.Balance.Outcome.{NoPlan, Plan}
 use Rattle.rules.specs.Step.{shortfall, narrowed, listedDays, atLeastStep}
+use Rattle.rules.specs.Calls.{rangesFit}
 use Rattle.rules.proofs.Quiet.{narrowed-quiet}
 use Rattle.rules.proofs.Walk.{eachLeft, each-start, each-same, each-end}
 use Rattle.rows.specs.View.{noTask}
@@ -26,12 +30,19 @@ use Rattle.rows.specs.Fits.{AllFit}
 use Rattle.rows.proofs.Fits.{bounded-in}
 use Rattle.rows.proofs.Walk.{Begun}
 use Rattle.stretches.specs.declared.Stretch.{Stretch}
-use Rattle.stretches.specs.Tells.{Tells}
+use Rattle.stretches.specs.View.{noStretch, onDay}
+use Rattle.stretches.specs.Tells.{Quiet, Tells}
+use Rattle.events.specs.Events.{barOf, liftOf}
+use Rattle.events.proofs.Fit.{fit-is}
+use Rattle.events.proofs.Each.{any-at, in-at}
+use Rattle.profile.proofs.Calm.{calm-quiet}
 use Rattle.narrow.specs.Ready.{Among}
 use Rattle.narrow.specs.Ready.Among.{head, tail}
 use Rattle.narrow.proofs.Others.{fit-out, possible-out}
 use Rattle.narrow.proofs.Page.{still-page, live-fit}
+use Rattle.step.specs.declared.Least.{Least}
 use Rattle.step.specs.Asks.{Told}
+use Rattle.step.specs.Least.{lowerOf, Under, asksMore}
 
 among-at : (k : ℕ) (ts : List Task) → k < length ts → Among (getD ts k noTask) ts
 among-at k [] h = absurd (not-suc-le-zero h)
@@ -59,6 +70,49 @@ away-kept r ts fit i inside limit e =
     sym
     (still-page r limit ts t (fit-out t (bounded-in t (fit i inside .ranges))) (not-empty (fit i inside .some))
     (λ j p. clash (has (t .set) r) (possible-out r j t p .among) e))
+
+-- the lower of two powers is below neither
+pub lower-first : (p q : Power) → lowerOf p q .0 ≤ℤ p .0
+unfolding lowerOf
+lower-first p q = if-case (λ (x : Power). x .0 ≤ℤ p .0) (ltZ (q .0) (p .0)) q p (λ e. omega (z, e)) (λ e. omega z)
+
+pub lower-second : (p q : Power) → lowerOf p q .0 ≤ℤ q .0
+unfolding lowerOf
+lower-second p q = if-case (λ (x : Power). x .0 ≤ℤ q .0) (ltZ (q .0) (p .0)) q p (λ e. omega z) (λ e. omega (z, e))
+
+-- so does one that asks for no more than every stretch leaves
+module _ (r : ℕ) (limit : ℤ → ℤ) (ss : List Stretch) (ts : List Task) (fit : AllFit 64 ts) (k : ℕ) (inside : k < length ts) (told : Told r limit ts ss) (l : Least) (under : Under l ss) where
+  abbrev task : Task
+  task = getD ts k noTask
+
+  fits : rangesFit task ≡ true
+  fits = bounded-in task (fit k inside .ranges)
+
+  quiet-on : barOf task ≤ℤ l .slack .0 → liftOf task ≤ℤ l .tight .0 → (i : ℤ) → Quiet r limit ts task i
+  quiet-on a b i =
+      by-cases (any (onDay i) ss)
+      (λ e.
+      let o = any-at (onDay i) noStretch ss e in
+      let x = told .tells k inside .exact (o .0) (o .1) in
+      let u = under .slack (o .0) (o .1) in
+      let v = under .tight (o .0) (o .1) in
+      let s = x .slack i (o .2) in
+      let t = x .tight i (o .2) in
+      calm-quiet r limit ts (fit-is task fits) (in-at noTask ts k inside) i (λ p. (rw (← s) (omega (z, a, u)), rw (← t) (omega (z, b, v)))))
+      (λ e. told .tells k inside .quiet i e)
+
+  pub calm-kept : asksMore r task l ≡ false → narrowed r limit ts (listedDays ts) task ≡ Kept task
+  unfolding asksMore
+  calm-kept e =
+      by-cases (has (task .set) r)
+      (λ h.
+      let n : or (ltZ (l .slack .0) (barOf task)) (ltZ (l .tight .0) (liftOf task)) ≡ false = rw h at e in
+      let a : ltZ (l .slack .0) (barOf task) ≡ false = false-in (ltZ (l .slack .0) (barOf task)) (λ w. clash (or (ltZ (l .slack .0) (barOf task)) (ltZ (l .tight .0) (liftOf task))) (or-first (ltZ (l .slack .0) (barOf task)) (ltZ (l .tight .0) (liftOf task)) w) n) in
+      let b : ltZ (l .tight .0) (liftOf task) ≡ false = sym (or-left (ltZ (l .slack .0) (barOf task)) (ltZ (l .tight .0) (liftOf task)) a) ∙ n in
+      narrowed-quiet r limit ts (listedDays ts) task
+      (λ i. let q = quiet-on (omega (z, a)) (omega (z, b)) i in record { need = q .unneeded; bar = q .unbarred; height = q .unlifted })
+      (live-fit task (fit-out task fits) (not-empty (fit k inside .some))))
+      (λ h. away-kept r ts fit k inside limit h)
 
 -- and the list is as it was
 pub begun-same : (ts : List Task) (i : ℕ) (us : List Task) (touched : ℕ) → Begun ts i us touched → Begun ts (i + 1) us touched

@@ -1,2 +1,3 @@
--- What a resource step asks.
+-- What a resource step asks, and which tasks its stretches can touch.
 pub mod Asks
+pub mod Least

@@ -3,7 +3,7 @@ use borrow.Author.Needs.{needs}
 use native.Mathlib.Omega.{arith}
 use mathlib.Core.Path.{_≡_, refl, sym, ap, _∙_}
 use mathlib.Core.Logic.{⊎-elim}
-use mathlib.Core.Bool.{false}
+use mathlib.Core.Bool.{true, false}
 use mathlib.Core.List.{List}
 use Prim.Native.Nat.{ℕ, _≤_, _<_, _-_}
 use lib.IntN.{ℤ}
@@ -12,9 +12,9 @@ use Rattle.integers.proofs.Tests.{clash}
 use Rattle.plan.specs.declared.Task.{Task}
 use Rattle.plan.specs.declared.Narrowed.{Narrowed}
 use Rattle.plan.specs.declared.Narrowed.the-variants.{Kept, RanOut}
-use Rattle.plan.specs.Sets.{has}
 use Rattle.rules.specs.Balance.{each}
 use Rattle.rules.specs.Step.{narrowed, listedDays}
+use Rattle.rules.specs.Calls.{rangesFit}
 use Rattle.rules.proofs.Walk.{eachLeft, each-start, each-kept, each-same, each-out, each-end}
 use Rattle.rows.specs.View.{tasksOf, noTask}
 use Rattle.rows.specs.Fits.{Bounded}
@@ -24,7 +24,8 @@ use Rattle.rows.proofs.Walk.{Begun, begun-start, begun-next, begun-more}
 use Rattle.stretches.specs.declared.Stretch.{Stretch}
 use Rattle.stretches.specs.View.{stretchesOf}
 use Rattle.step.specs.Asks.{Told}
-use Rattle.step.proofs.Listed.{next-narrowed, away-kept, begun-same}
+use Rattle.step.specs.Least.{asksMore}
+use Rattle.step.proofs.Listed.{next-narrowed, calm-kept, begun-same}
 use Rattle.step.proofs.narrow_all.Statement.{statement}
 use Rattle.step.proofs.narrow_all.Tie as tie
 
@@ -33,38 +34,48 @@ abbrev Left : ℕ → List Stretch → List Task → ℕ → List Task → Type 
 Left r ss ts i us = (limit : ℤ → ℤ) → Told r limit ts ss → eachLeft (narrowed r limit ts (listedDays ts)) i us ≡ each (narrowed r limit ts (listedDays ts)) ts
 
 abbrev Inv-loop : tie.InvT-loop
-Inv-loop s₀ r ss touched₀ i₀ s touched i =
+Inv-loop s₀ r ss l touched₀ i₀ s touched i =
     (i ≤ length s₀) × (length s ≡ length s₀) × Begun (tasksOf s₀) i (tasksOf s) touched × Left r (stretchesOf ss) (tasksOf s₀) i (tasksOf s)
 
 abbrev μ-loop : tie.MeasureT-loop
-μ-loop s₀ r ss touched₀ i₀ s touched i = length s₀ - i
+μ-loop s₀ r ss l touched₀ i₀ s touched i = length s₀ - i
 
 loop-holds : tie.Need-loop-holds Inv-loop μ-loop
 loop-holds c =
-    let ts = tasksOf (c .args .s .now) in
-    (omega arith, refl, begun-start ts, λ limit told. each-start (narrowed (c .args .r) limit ts (listedDays ts)) ts)
+    let ts = tasksOf (c .before .args .s .now) in
+    (omega arith, refl, begun-start ts, λ limit told. each-start (narrowed (c .before .args .r) limit ts (listedDays ts)) ts)
 
 task-at-requires : tie.Need-task-at-requires Inv-loop μ-loop
 task-at-requires c κs = search needs
 
-has-resource-requires : tie.Need-has-resource-requires Inv-loop μ-loop
-has-resource-requires c κs = c .before .before .before .before .pre .0
+least-of-requires : tie.Need-least-of-requires Inv-loop μ-loop
+least-of-requires c κs = search needs
+
+-- the next task's ranges lie within their ends
+next-fits : (c : tie.After-task-at Inv-loop μ-loop) → rangesFit (c .task-at .result) ≡ true
+next-fits c =
+    let b = c .before .before .before in
+    let a = b .before .before in
+    let s = a .args .s .now in
+    let e = c .task-at .ensures ∙ begun-next (tasksOf s) (b .loop .i) (tasksOf (b .loop .s)) (b .loop .touched) (b .loop .inv .2) in
+    let l : b .loop .i < length (tasksOf s) = omega (arith, length-tasks s) in
+    rw e (bounded-in (getD (tasksOf s) (b .loop .i) noTask) (a .pre .1 (b .loop .i) l .ranges))
+
+asks-more-requires : tie.Need-asks-more-requires Inv-loop μ-loop
+asks-more-requires c κs = (c .before .before .before .before .before .pre .0, next-fits c)
 
 narrow-requires : tie.Need-narrow-requires Inv-loop μ-loop
 narrow-requires c κs =
-    let b = c .before .before .before .before .before in
-    let s = b .before .args .s .now in
-    let e = c .before .before .task-at .ensures ∙ begun-next (tasksOf s) (b .loop .i) (tasksOf (b .loop .s)) (b .loop .touched) (b .loop .inv .2) in
-    let l : b .loop .i < length (tasksOf s) = omega (arith, length-tasks s) in
-    record { place = b .before .pre .0; fits = rw e (bounded-in (getD (tasksOf s) (b .loop .i) noTask) (b .before .pre .1 (b .loop .i) l .ranges)) }
+    let t = c .before .before in
+    record { place = t .before .before .before .before .before .pre .0; fits = next-fits t }
 
 -- what the page makes of the next task
 narrowed-next : (c : tie.After-narrow Inv-loop μ-loop) (limit : ℤ → ℤ)
-    → Told (c .before .before .before .before .before .before .before .args .r) limit (tasksOf (c .before .before .before .before .before .before .before .args .s .now)) (stretchesOf (c .before .before .before .before .before .before .before .args .ss .now))
-    → narrowed (c .before .before .before .before .before .before .before .args .r) limit (tasksOf (c .before .before .before .before .before .before .before .args .s .now)) (listedDays (tasksOf (c .before .before .before .before .before .before .before .args .s .now))) (getD (tasksOf (c .before .before .before .before .before .before .loop .s)) (c .before .before .before .before .before .before .loop .i) noTask) ≡ c .narrow .result
+    → Told (c .before .before .before .before .before .before .before .before .args .r) limit (tasksOf (c .before .before .before .before .before .before .before .before .args .s .now)) (stretchesOf (c .before .before .before .before .before .before .before .before .args .ss .now))
+    → narrowed (c .before .before .before .before .before .before .before .before .args .r) limit (tasksOf (c .before .before .before .before .before .before .before .before .args .s .now)) (listedDays (tasksOf (c .before .before .before .before .before .before .before .before .args .s .now))) (getD (tasksOf (c .before .before .before .before .before .before .loop .s)) (c .before .before .before .before .before .before .loop .i) noTask) ≡ c .narrow .result
 narrowed-next c limit told =
     let l = c .before .before .before .before .before .before in
-    let b = l .before in
+    let b = l .before .before in
     let s = b .args .s .now in
     let n = begun-next (tasksOf s) (l .loop .i) (tasksOf (l .loop .s)) (l .loop .touched) (l .loop .inv .2) in
     let inside : l .loop .i < length (tasksOf s) = omega (arith, length-tasks s) in
@@ -86,7 +97,7 @@ same-length c = omega arith
 returns : tie.Need-returns Inv-loop μ-loop
 returns c =
     let l = c .before .before .before .before .before .before .before .before in
-    let b = l .before in
+    let b = l .before .before in
     let ts = tasksOf (b .args .s .now) in
     let us = tasksOf (l .loop .s) in
     let h : l .loop .i < length us = omega (arith, length-tasks (l .loop .s)) in
@@ -109,7 +120,7 @@ loop-less c = omega arith
 loop-again : tie.Need-loop-again Inv-loop μ-loop
 loop-again c =
     let l = c .before .before .before .before .before in
-    let b = l .before in
+    let b = l .before .before in
     let s = b .args .s .now in
     let ts = tasksOf s in
     let us = tasksOf (l .loop .s) in
@@ -134,7 +145,8 @@ loop-again c =
           (each-kept (narrowed r limit ts (listedDays ts)) noTask (u .0 .0) i us h (rw n (e ∙ u .1)) ∙ l .loop .inv .3 limit told),
     ))
     (λ w.
-    let e : has (getD ts i noTask .set) r ≡ false = ap (λ (x : Task). has (x .set) r) (sym (t .ensures ∙ n)) ∙ sym (c .before .has-resource .ensures) ∙ w .0 .left in
+    let a = l .before .least-of in
+    let e : asksMore r (getD ts i noTask) (a .result) ≡ false = ap (λ (x : Task). asksMore r x (a .result)) (sym (t .ensures ∙ n)) ∙ sym (c .before .asks-more .ensures) ∙ w .0 .left in
     let f : c .if1 .s ≡ l .loop .s = w .1 in
     let g : c .if1 .touched ≡ l .loop .touched = w .2 in
     let k = ap length f in (
@@ -143,7 +155,7 @@ loop-again c =
       rw (f, g) (begun-same ts i us (l .loop .touched) (l .loop .inv .2)),
       λ limit told.
           rw f
-          (each-same (narrowed r limit ts (listedDays ts)) noTask i us h (rw n (away-kept r ts (b .pre .1) i inside limit e)) ∙ l .loop .inv .3 limit told),
+          (each-same (narrowed r limit ts (listedDays ts)) noTask i us h (rw n (calm-kept r limit (stretchesOf (b .args .ss .now)) ts (b .pre .1) i inside told (a .result) (a .ensures) e)) ∙ l .loop .inv .3 limit told),
     ))
     (c .if1 .came)
 
@@ -153,7 +165,7 @@ same-length-2 c = omega arith
 returns-2 : tie.Need-returns-2 Inv-loop μ-loop
 returns-2 c =
     let l = c .before in
-    let b = l .before in
+    let b = l .before .before in
     let ts = tasksOf (b .args .s .now) in
     let us = tasksOf (l .loop .s) in (
       λ limit told.
@@ -167,9 +179,10 @@ narrow-all-spec =
     (tie.spec
     Inv-loop
     μ-loop
+    least-of-requires
     loop-holds
     task-at-requires
-    has-resource-requires
+    asks-more-requires
     narrow-requires
     enum-known-u
     put-changed-requires
