@@ -2,13 +2,13 @@
 use mathlib.Core.Path.{_≡_, refl, sym, ap, _∙_, subst}
 use mathlib.Core.Bool.{Bool, true, false, not}
 use mathlib.Core.List.{List, [], _∷_, _++_, map}
-use Prim.Native.Nat.{ℕ, zero, suc, _+_, _*_, _≤_, _<_}
+use Prim.Native.Nat.{ℕ, zero, suc, _+_, _*_, _≤_, _<_, min}
 use native.Mathlib.Omega.{arith}
 use native.Mathlib.Nat.{suc-mul, add-comm}
 use lib.Dec.{T, ltb, lt→ltb}
 use lib.ListN.{length, drop, length-append}
 use borrow.Author.Tests.{ltb-true, ltb-false}
-use Rattle.integers.proofs.Tests.{clash, false-in}
+use Rattle.integers.proofs.Tests.{clash, by-cases, false-in}
 use Rattle.plan.specs.declared.Task.{Task}
 use Rattle.plan.specs.declared.Resource.{Resource}
 use Rattle.plan.specs.declared.Refusal.{Refusal}
@@ -17,7 +17,7 @@ use Rattle.plan.specs.declared.Sense.{Sense}
 use Rattle.plan.specs.declared.Answer.{Answer}
 use Rattle.plan.specs.Refusals.{number, place}
 use Rattle.rules.specs.Settle.{Settled}
-use Rattle.rules.specs.Calls.{Checked, orElse, check, Result, done, refused}
+use Rattle.rules.specs.Calls.{Checked, orElse, check, mostTasks, Result, done, refused}
 use Rattle.rules.specs.Calls.Checked.{Accepted, Refuse}
 use Rattle.rules.proofs.Subs.{Subs, subs-length}
 use Rattle.engine.specs.declared.Call.{Call}
@@ -29,7 +29,7 @@ use Rattle.engine.proofs.Calls.{resultBack, call-worked, work-accepted}
 use Rattle.format.specs.declared.ReadAnswer.{ReadAnswer}
 use Rattle.format.specs.Reading.{Read, readPlan, readAnswer, headerIn, resourcesIn, tasksIn, shapeDue}
 use Rattle.format.proofs.Records.{then-second}
-use Rattle.format.proofs.Files.{read-accepted, read-is}
+use Rattle.format.proofs.Files.{read-accepted, read-is, room-same}
 use Rattle.format.specs.declared.Mark.{Mark}
 use Rattle.format.specs.declared.Mark.the-variants.{PL, RS, TK}
 use Rattle.format.specs.declared.Header.{Header}
@@ -171,3 +171,10 @@ got-accepted places room file {sense} {qs} {ts} e =
     let q : resourcesIn h file ≡ qs = cc in
     let t : tasksIn h file ≡ ts = cc in
     rw (q, t) at (then-second (shapeDue places room h file) k ok)
+
+-- ---- rows for as many tasks as the header counts, or for the most there can be, are rows enough
+pub rows-enough : (places rows : ℕ) (file : List ℕ) → rows ≤ mostTasks → min (headerIn file .tasks) mostTasks ≤ rows → readPlan places rows file ≡ readPlan places mostTasks file
+rows-enough places rows file few h =
+    by-cases (ltb rows (headerIn file .tasks))
+    (λ e. let l = ltb-true rows (headerIn file .tasks) e in ap (λ (k : ℕ). readPlan places k file) (omega (arith, l, h, few)))
+    (λ e. room-same places rows file (ltb-false rows (headerIn file .tasks) e) few)

@@ -1,14 +1,14 @@
 // Gristwaltz for other languages: calls on a plan file in memory, each with one number as its answer. They keep no state.
 ghost use mathlib.Core.Path.{_≡_};
 ghost use mathlib.Core.Bool.{true};
-ghost use Prim.Native.Nat.{ℕ, _≤_};
+ghost use Prim.Native.Nat.{_≤_, min};
 ghost use lib.ListN.{length};
 ghost use Rattle.plan.specs.declared.Answer.the-variants.{Refused};
 ghost use Rattle.rules.specs.Calls.{check, mostResources, mostTasks};
 ghost use Rattle.rules.specs.Calls.Checked.{Accepted};
 ghost use Rattle.rows.specs.View.{tasksOf, resourcesOf};
 ghost use Rattle.step.specs.Asks.{Roomy};
-ghost use Rattle.format.specs.Reading.{headerIn, readPlan};
+ghost use Rattle.format.specs.Reading.{headerIn};
 ghost use Rattle.engine.specs.declared.Call.the-variants.{Balance, Step, Settle};
 ghost use Rattle.engine.specs.Calls.{callOf, placedIn};
 ghost use Rattle.gristwaltz.specs.Files.{answerNumber, fileLength, fileResult, resultFile, planCall, fileCall, checkFile};
@@ -86,7 +86,7 @@ fn call_lent(
     ss: &mut [[i64; 4]],
     out: &mut [u8],
 ) -> u64
-    requires { ⌜ (mostResources ≤ length (now q)) × (readPlan mostResources (length (now s)) (now file) ≡ readPlan mostResources mostTasks (now file)) ⌝ }
+    requires { ⌜ (mostResources ≤ length (now q)) × (length (now s) ≤ mostTasks) × (min (headerIn (now file) .tasks) mostTasks ≤ length (now s)) ⌝ }
     requires { ⌜ Roomy (length (now s)) (length (now keys)) (length (now spare)) (length (now ss)) ⌝ }
     ensures { λ r. ⌜ fileResult r (now (out .exit)) ≡ fileCall c (now (file .entry)) (now (out .entry)) ⌝ }
 {
@@ -156,6 +156,31 @@ fn call_middle(c: Call, file: &[u8], out: &mut [u8]) -> u64
     )
 }
 
+// Rows for 128 tasks.
+fn call_wide(c: Call, file: &[u8], out: &mut [u8]) -> u64
+    requires { ⌜ headerIn (now file) .tasks ≤ 128 ⌝ }
+    ensures { λ r. ⌜ fileResult r (now (out .exit)) ≡ fileCall c (now (file .entry)) (now (out .entry)) ⌝ }
+{
+    let resource = [0i64; 2];
+    let task = [0i64; 9];
+    let stretch = [0i64; 4];
+    let mut resources = [resource; 16];
+    let mut tasks = [task; 128];
+    let mut keys = [0u64; 512];
+    let mut spare = [0u64; 512];
+    let mut stretches = [stretch; 513];
+    call_lent(
+        c,
+        file,
+        &mut resources,
+        &mut tasks,
+        &mut keys,
+        &mut spare,
+        &mut stretches,
+        out,
+    )
+}
+
 // Rows for every plan.
 fn call_large(c: Call, file: &[u8], out: &mut [u8]) -> u64
     ensures { λ r. ⌜ fileResult r (now (out .exit)) ≡ fileCall c (now (file .entry)) (now (out .entry)) ⌝ }
@@ -194,6 +219,9 @@ fn call_file(c: Call, file: &[u8], out: &mut [u8]) -> u64
     }
     if n <= 64 {
         return call_middle(c, file, out);
+    }
+    if n <= 128 {
+        return call_wide(c, file, out);
     }
     call_large(c, file, out)
 }

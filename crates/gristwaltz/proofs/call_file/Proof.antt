@@ -39,14 +39,24 @@ same-length-3 c = search needs
 returns-3 : tie.Need-returns-3
 returns-3 c = search needs
 
-call-large-requires-2 : tie.Need-call-large-requires-2
-call-large-requires-2 c κs = search needs
+call-wide-requires : tie.Need-call-wide-requires
+unfolding headerIn
+call-wide-requires c κs = let e = ap (λ (x : Header). x .tasks) (c .before .before .before .before .header-of .ensures) in omega (arith, e, c .before .if4 .taken)
 
 same-length-4 : tie.Need-same-length-4
 same-length-4 c = search needs
 
 returns-4 : tie.Need-returns-4
 returns-4 c = search needs
+
+call-large-requires-2 : tie.Need-call-large-requires-2
+call-large-requires-2 c κs = search needs
+
+same-length-5 : tie.Need-same-length-5
+same-length-5 c = search needs
+
+returns-5 : tie.Need-returns-5
+returns-5 c = search needs
 
 pub call-file-spec : {M : Type 1} → statement M
 call-file-spec =
@@ -62,6 +72,9 @@ call-file-spec =
     call-middle-requires
     same-length-3
     returns-3
-    call-large-requires-2
+    call-wide-requires
     same-length-4
-    returns-4)
+    returns-4
+    call-large-requires-2
+    same-length-5
+    returns-5)

@@ -18,7 +18,7 @@ use Rattle.format.specs.Reading.{readPlan}
 use Rattle.gristwaltz.specs.Files.{fileResult, planCall, afterRead, fileCall}
 use borrow.Author.Needs.{needs}
 use Rattle.format.proofs.Files.{Told, told, refused}
-use Rattle.gristwaltz.proofs.Files.{got-accepted}
+use Rattle.gristwaltz.proofs.Files.{got-accepted, rows-enough}
 use Rattle.gristwaltz.proofs.call_lent.Statement.{statement}
 use Rattle.gristwaltz.proofs.call_lent.Tie as tie
 
@@ -32,6 +32,9 @@ module _ (c : tie.After-read-plan) where
 
   abbrev room : ℕ
   room = length (start .args .s .now)
+
+  same : readPlan mostResources room file ≡ readPlan mostResources mostTasks file
+  same = rows-enough mostResources room file (start .pre .0 .1) (start .pre .0 .2)
 
   abbrev resources : List (List ℤ)
   resources = c .read-plan .last .1 .1 .1 .0
@@ -120,7 +123,7 @@ returns c =
     let b = start d in
     let f = c .before .before .answer .given in
     ap (λ (k : ℕ). fileResult k (b .args .out .now)) (c .refusal-number .ensures)
-    ∙ ap (afterRead (b .args .c) (b .args .out .now)) (sym (refused mostResources (room d) (file d) (sym (d .read-plan .ensures .0) ∙ f .1)) ∙ b .pre .0 .1)
+    ∙ ap (afterRead (b .args .c) (b .args .out .now)) (sym (refused mostResources (room d) (file d) (sym (d .read-plan .ensures .0) ∙ f .1)) ∙ same d)
 
 same-length-3 : tie.Need-same-length-3
 same-length-3 c = search needs
@@ -152,7 +155,7 @@ returns-2 c =
     c .before .before .before .before .before .before .before .before .call-plan .ensures
     ∙ ap (λ (x : List Resource). planCall (b .args .c) (a .0 .0) x (tasksOf (take (a .0 .1 .1 .0) (tasks d))) (b .args .out .now)) q
     ∙ ap (λ (x : List Task). planCall (b .args .c) (a .0 .0) (p .resources) x (b .args .out .now)) t
-    ∙ ap (afterRead (b .args .c) (b .args .out .now)) (sym (p .is) ∙ b .pre .0 .1)
+    ∙ ap (afterRead (b .args .c) (b .args .out .now)) (sym (p .is) ∙ same d)
 
 pub call-lent-spec : {M : Type 1} → statement M
 call-lent-spec =
