@@ -2,7 +2,7 @@
 use mathlib.Core.Path.{_≡_, refl, sym, ap, _∙_}
 use mathlib.Core.Bool.{Bool, true, false}
 use mathlib.Core.List.{List, [], _∷_}
-use Prim.Native.Nat.{ℕ, _+_, _-_}
+use Prim.Native.Nat.{ℕ, _+_, _-_, _≤_}
 use native.Mathlib.Omega.{arith}
 use lib.Dec.{eqb, ltb}
 use lib.ListN.{length, getD}
@@ -26,7 +26,7 @@ use Rattle.cursor.specs.declared.Record.{Record}
 use Rattle.cursor.specs.declared.Run.{Run}
 use Rattle.format.specs.Format.{mark, size, numbersIn, headerFrom, resourceFrom, taskFrom}
 use Rattle.format.specs.Reading.{marked, due}
-use Rattle.cursor.specs.Handed.{cursor, whole, handed, sameMark, notDue, through}
+use Rattle.cursor.specs.Handed.{cursor, whole, recordOf, handed, sameMark, notDue, through}
 use Rattle.format.proofs.Records.{due-length, due-marked}
 
 -- a whole record of that mark
@@ -51,6 +51,13 @@ apart j k bs e m =
     let p = eqb-true a (getD (mark j) 0 0) (and-first (eqb a (getD (mark j) 0 0)) (eqb (getD bs 1 0) (getD (mark j) 1 0)) m) in
     let q = eqb-true a (getD (mark k) 0 0) (and-first (eqb a (getD (mark k) 0 0)) (eqb (getD bs 1 0) (getD (mark k) 1 0)) n) in
     clash (sameMark j k) (eq-eqb (getD (mark j) 0 0) (getD (mark k) 0 0) (sym p ∙ q)) e)
+
+-- a mark that stands there announces what is handed out
+pub handed-marked : (k : Mark) (at : ℕ) (bs : List ℕ) → 2 ≤ length bs → marked k bs ≡ true → handed at bs ≡ recordOf k at bs
+unfolding handed
+handed-marked PL at bs h m = rw (le-ltb (length bs) 2 h, m)
+handed-marked RS at bs h m = rw (le-ltb (length bs) 2 h, apart RS PL bs refl m, m)
+handed-marked TK at bs h m = rw (le-ltb (length bs) 2 h, apart TK PL bs refl m, apart TK RS bs refl m, m)
 
 module _ (k : Mark) (at : ℕ) (bs : List ℕ) where
   own : (r : Record) → sameMark k k ≡ true → holds k r ≡ true → asDue k at (whole k bs r) ≡ refuseIf (ltb (length bs) (size k)) (CutShort at)

@@ -23,12 +23,18 @@ cursor at = record { at = at }
 abbrev pub whole : Mark → List ℕ → Record → Record
 whole k bs r = if (ltb (length bs) (size k)) (Record.CutShort k) r
 
+-- what a mark announces
+abbrev pub recordOf : Mark → ℕ → List ℕ → Record
+recordOf PL at bs = whole PL bs (Record.Plan (headerFrom (numbersIn PL bs)) (cursor (at + size PL)))
+recordOf RS at bs = whole RS bs (Record.Resource (resourceFrom (numbersIn RS bs)) (cursor (at + size RS)))
+recordOf TK at bs = whole TK bs (Record.Task (taskFrom (numbersIn TK bs)) (cursor (at + size TK)))
+
 unfoldable pub handed : ℕ → List ℕ → Record
 handed at bs =
     if (ltb (length bs) 2) Record.Ended
-    (if (marked PL bs) (whole PL bs (Record.Plan (headerFrom (numbersIn PL bs)) (cursor (at + size PL))))
-    (if (marked RS bs) (whole RS bs (Record.Resource (resourceFrom (numbersIn RS bs)) (cursor (at + size RS))))
-    (if (marked TK bs) (whole TK bs (Record.Task (taskFrom (numbersIn TK bs)) (cursor (at + size TK)))) Record.NoMark)))
+    (if (marked PL bs) (recordOf PL at bs)
+    (if (marked RS bs) (recordOf RS at bs)
+    (if (marked TK bs) (recordOf TK at bs) Record.NoMark)))
 
 unfoldable pub recordAt : List ℕ → ℕ → Record
 recordAt file at = handed at (drop at file)

@@ -5,7 +5,7 @@ ghost use lib.ListN.{length};
 ghost use Rattle.format.specs.declared.Mark.the-variants.{PL, RS, TK};
 ghost use Rattle.format.specs.Format.{size, numbersIn, headerFrom, resourceFrom, taskFrom};
 ghost use Rattle.format.specs.Reading.{marked};
-ghost use Rattle.cursor.specs.Handed.{cursor, whole, handed, recordAt, sameMark, notDue};
+ghost use Rattle.cursor.specs.Handed.{cursor, whole, recordOf, handed, recordAt, sameMark, notDue};
 use format::Header;
 use format::Mark;
 use format::fields::day_at;
@@ -153,14 +153,46 @@ fn handed(at: usize, b: &[u8]) -> Record
     Record::NoMark
 }
 
+// The record that a mark announces.
+fn record_of(k: Mark, at: usize, b: &[u8]) -> Record
+    requires { ⌜ at + length (now b) < 2 ^ 64 ⌝ }
+    ensures { λ r. ⌜ r ≡ recordOf k at (now (b .entry)) ⌝ }
+{
+    match k {
+        Mark::PL => plan_record(at, b),
+        Mark::RS => resource_record(at, b),
+        Mark::TK => task_record(at, b),
+    }
+}
+
+// What stands in the bytes, one mark looked for before the others: a run of records of that mark asks for no other.
+fn handed_due(k: Mark, at: usize, b: &[u8]) -> Record
+    requires { ⌜ at + length (now b) < 2 ^ 64 ⌝ }
+    ensures { λ r. ⌜ r ≡ handed at (now (b .entry)) ⌝ }
+{
+    if 2 <= b.len() {
+        if is_marked(k, b) {
+            return record_of(k, at, b);
+        }
+    }
+    handed(at, b)
+}
+
 impl Cursor {
     // The record at the cursor; a cursor past the end stands before nothing.
     pub fn next(self, file: &[u8]) -> Record
         ensures { λ r. ⌜ r ≡ recordAt (now (file .entry)) (self .at) ⌝ }
     {
+        self.next_due(Mark::PL, file)
+    }
+
+    // The same record, found sooner where it is the one that is due.
+    pub fn next_due(self, k: Mark, file: &[u8]) -> Record
+        ensures { λ r. ⌜ r ≡ recordAt (now (file .entry)) (self .at) ⌝ }
+    {
         let at = self.at;
         if at < file.len() {
-            return handed(at, &file[at..]);
+            return handed_due(k, at, &file[at..]);
         }
         Record::Ended
     }

@@ -34,7 +34,7 @@ fn read_resources(file: &[u8], from: Cursor, n: usize, q: &mut [[i64; 2]]) -> Ru
     let mut i: usize = 0;
     while i < n {
         let at = c.at;
-        let got = c.next(file);
+        let got = c.next_due(Mark::RS, file);
         let Record::Resource(r, past) = got else {
             return Run::Refused(not_due(Mark::RS, at, got));
         };
@@ -54,7 +54,7 @@ fn read_tasks(file: &[u8], from: Cursor, n: usize, s: &mut [[i64; 9]]) -> Run
     let mut i: usize = 0;
     while i < n {
         let at = c.at;
-        let got = c.next(file);
+        let got = c.next_due(Mark::TK, file);
         let Record::Task(t, past) = got else {
             return Run::Refused(not_due(Mark::TK, at, got));
         };

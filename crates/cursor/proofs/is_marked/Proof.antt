@@ -1,5 +1,5 @@
-use mathlib.Core.Path.{sym, _∙_}
 -- Both bytes.
+use mathlib.Core.Path.{sym, _∙_}
 use borrow.Author.Tests.{eq-eqb, ne-eqb}
 use lib.ListN.{getD}
 use Rattle.format.specs.Format.{mark}

@@ -1,5 +1,5 @@
-use mathlib.Core.Path.{sym}
 -- Case by case.
+use mathlib.Core.Path.{sym}
 use borrow.Author.Needs.{needs}
 use Rattle.cursor.proofs.not_due.Statement.{statement}
 use Rattle.cursor.proofs.not_due.Tie as tie

@@ -27,8 +27,8 @@ abbrev μ-loop : tie.MeasureT-loop
 loop-holds : tie.Need-loop-holds Inv-loop μ-loop
 loop-holds c = let s = c .before in (refl, reading-starts TK taskFrom (s .args .file .now) (s .args .n) (s .args .from .at) (tasksOf (s .args .s .now)))
 
-next-requires : tie.Need-next-requires Inv-loop μ-loop
-next-requires c κs = search needs
+next-due-requires : tie.Need-next-due-requires Inv-loop μ-loop
+next-due-requires c κs = search needs
 
 enum-known-got : tie.Need-enum-known-got Inv-loop μ-loop
 enum-known-got c = c .match .keys1
@@ -45,7 +45,7 @@ returns c =
     let s = c .before .before .before .before .before .before in
     let l = c .before .before .before .before .loop in
     let at = l .c .at in
-    let d = task-refused at (drop at (s .args .file .now)) (c .before .before .next .ensures) (c .before .match .keys2) in
+    let d = task-refused at (drop at (s .args .file .now)) (c .before .before .next-due .ensures) (c .before .match .keys2) in
     let e = reading-refused TK taskFrom (s .args .file .now) (s .args .n) (s .args .from .at) (tasksOf (s .args .s .now)) (l .inv .1) (omega arith) d in
     (rw (e, c .not-due .ensures), λ a. not-both (sym e ∙ a))
 
@@ -66,7 +66,7 @@ loop-again c =
     let got = c .before .before .before .before .got .given in
     let put = c .before .put-task in
     let at = l .c .at in
-    let w = task-taken at (drop at (s .args .file .now)) (c .before .before .before .before .before .before .next .ensures) (got .1) in
+    let w = task-taken at (drop at (s .args .file .now)) (c .before .before .before .before .before .before .next-due .ensures) (got .1) in
     let e = put .ensures ∙ ap (λ (x : Task). set (tasksOf (l .s)) (l .i) x) (w .1) in (
       omega (arith, length-tasks (put .last .0), length-tasks (l .s), ap length (put .ensures), length-set (tasksOf (l .s)) (l .i) (got .0 .0)),
       rw (w .2) (reading-goes-on TK taskFrom (s .args .file .now) (s .args .n) (s .args .from .at) (tasksOf (s .args .s .now)) (l .inv .1) (omega arith) (w .0) e),
@@ -88,7 +88,7 @@ read-tasks-spec =
     Inv-loop
     μ-loop
     loop-holds
-    next-requires
+    next-due-requires
     enum-known-got
     not-due-requires
     same-length

@@ -1,3 +1,4 @@
+-- The bits of the number, in four bytes.
 use lib.IntN.{ℤ}
 use mir.Syntax.{w32}
 use mir.Val.{ofZ}
@@ -7,7 +8,6 @@ use mathlib.Core.List.{List}
 use Prim.Native.Nat.{ℕ}
 use lib.Seq.{sets}
 use Rattle.format.specs.Numbers.{bytesOf}
--- The bits of the number, in four bytes.
 use borrow.Author.Needs.{needs}
 use Rattle.format.proofs.fields.put_signed.Statement.{statement}
 use Rattle.format.proofs.fields.put_signed.Tie as tie

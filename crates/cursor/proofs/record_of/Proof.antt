@@ -1,0 +1,54 @@
+-- By the mark.
+use mathlib.Core.Path.{_∙_, sym, ap}
+use Rattle.format.specs.declared.Mark.{Mark}
+use Rattle.cursor.specs.Handed.{recordOf}
+use borrow.Author.Needs.{needs}
+use Rattle.cursor.proofs.record_of.Statement.{statement}
+use Rattle.cursor.proofs.record_of.Tie as tie
+
+enum-told : tie.Need-enum-told
+enum-told c = search needs
+
+plan-record-requires : tie.Need-plan-record-requires
+plan-record-requires c κs = search needs
+
+enum-told-2 : tie.Need-enum-told-2
+enum-told-2 c = search needs
+
+resource-record-requires : tie.Need-resource-record-requires
+resource-record-requires c κs = search needs
+
+enum-told-3 : tie.Need-enum-told-3
+enum-told-3 c = search needs
+
+task-record-requires : tie.Need-task-record-requires
+task-record-requires c κs = search needs
+
+returns : tie.Need-returns
+returns c =
+    let a = c .before .before .before .before .args in
+    c .plan-record .ensures ∙ ap (λ (x : Mark). recordOf x (a .at) (a .b .now)) (sym (c .before .enum-told .given .1))
+
+returns-2 : tie.Need-returns-2
+returns-2 c =
+    let a = c .before .before .before .before .args in
+    c .resource-record .ensures ∙ ap (λ (x : Mark). recordOf x (a .at) (a .b .now)) (sym (c .before .enum-told2 .given .1))
+
+returns-3 : tie.Need-returns-3
+returns-3 c =
+    let a = c .before .before .before .before .args in
+    c .task-record .ensures ∙ ap (λ (x : Mark). recordOf x (a .at) (a .b .now)) (sym (c .before .enum-told3 .given .1))
+
+pub record-of-spec : {M : Type 1} → statement M
+record-of-spec =
+    tie.close
+    (tie.spec
+    enum-told
+    plan-record-requires
+    enum-told-2
+    resource-record-requires
+    enum-told-3
+    task-record-requires
+    returns
+    returns-2
+    returns-3)
