@@ -1,5 +1,5 @@
 -- The task at a place is one of the tasks, and what narrowing it gives is what the page gives; one that may not stand here stays.
-use mathlib.Core.Path.{_≡_, refl, sym, ap, _∙_, subst}
+use mathlib.Core.Path.{_≡_, refl, sym, _∙_, subst}
 use mathlib.Core.Bool.{Bool, true, false}
 use mathlib.Core.List.{List, [], _∷_}
 use Prim.Native.Nat.{ℕ, zero, suc, _+_, _≤_, _<_}
@@ -7,8 +7,7 @@ use native.Mathlib.Nat.{not-suc-le-zero, le-of-suc-le-suc}
 use native.Mathlib.Omega.{arith}
 use lib.Dec.{eqb}
 use lib.IntN.{ℤ}
-use lib.ListN.{length, drop, getD}
-use lib.Seq.{drop-drop}
+use lib.ListN.{length, getD}
 use Rattle.integers.specs.Tests.{if, any}
 use Rattle.integers.proofs.Tests.{clash, false-in}
 use Rattle.plan.specs.declared.Task.{Task}
@@ -24,7 +23,6 @@ use Rattle.rules.proofs.Walk.{eachLeft, each-start, each-same, each-end}
 use Rattle.rows.specs.View.{noTask}
 use Rattle.rows.specs.Fits.{AllFit}
 use Rattle.rows.proofs.Fits.{bounded-in}
-use Rattle.rows.proofs.Walk.{Begun}
 use Rattle.stretches.specs.declared.Stretch.{Stretch}
 use Rattle.stretches.specs.Tells.{Tells}
 use Rattle.narrow.specs.Ready.{Among}
@@ -59,11 +57,6 @@ away-kept r ts fit i inside limit e =
     sym
     (still-page r limit ts t (fit-out t (bounded-in t (fit i inside .ranges))) (not-empty (fit i inside .some))
     (λ j p. clash (has (t .set) r) (possible-out r j t p .among) e))
-
--- and the list is as it was
-pub begun-same : (ts : List Task) (i : ℕ) (us : List Task) (touched : ℕ) → Begun ts i us touched → Begun ts (i + 1) us touched
-begun-same ts i us touched w =
-    record { size = w .size; rest = sym (drop-drop 1 i us) ∙ ap (drop 1) (w .rest) ∙ drop-drop 1 i ts; noted = w .noted }
 
 -- where every task stays, so does the list
 all-kept : (f : Task → Narrowed) (ts : List Task) → ((k : ℕ) → k < length ts → f (getD ts k noTask) ≡ Kept (getD ts k noTask)) → (n : ℕ) → n ≤ length ts → eachLeft f n ts ≡ each f ts
