@@ -1,3 +1,4 @@
--- What the balance step's sums need, and what it leaves.
+-- What the balance step's sums need, what it leaves, and which tasks it passes over.
 pub mod Fits
 pub mod Keeps
+pub mod Stays

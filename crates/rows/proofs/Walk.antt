@@ -14,7 +14,7 @@ use Rattle.plan.specs.declared.Value.{Value}
 use Rattle.rules.specs.Balance.{Outcome, andThen, each}
 use Rattle.rules.specs.Balance.Outcome.{NoPlan, Plan}
 use Rattle.rules.specs.Settle.{sameTask}
-use Rattle.rules.proofs.Walk.{eachLeft, each-start, each-kept, each-out, each-end}
+use Rattle.rules.proofs.Walk.{eachLeft, each-start, each-kept, each-same, each-out, each-end}
 use Rattle.rows.specs.View.{noTask}
 use Rattle.rows.specs.Changes.{union, touchedBy}
 use Rattle.rows.proofs.Changes.{touched-self, touched-put}
@@ -51,6 +51,11 @@ begun-more ts i us touched u l w =
       noted = rw (w .noted) (sym (touched-put noTask u i ts us l (w .rest)));
     }
 
+-- one that stays as it is needs no store
+pub begun-same : (ts : List Task) (i : ℕ) (us : List Task) (touched : ℕ) → Begun ts i us touched → Begun ts (i + 1) us touched
+begun-same ts i us touched w =
+    record { size = w .size; rest = sym (drop-drop 1 i us) ∙ ap (drop 1) (w .rest) ∙ drop-drop 1 i ts; noted = w .noted }
+
 module _ (f : Task → Narrowed) (ts : List Task) where
   -- and what is left to do gives the answer
   pub record Walk (i : ℕ) (us : List Task) (touched : ℕ) : Type 0 where
@@ -67,6 +72,9 @@ module _ (f : Task → Narrowed) (ts : List Task) where
       → Walk (i + 1) (set us i u) (if (sameTask (getD us i noTask) u) touched (union touched ((getD us i noTask) .set)))
   walk-kept i us touched u l e w =
       record { begun = begun-more ts i us touched u l (w .begun); left = each-kept f noTask u i us l e ∙ w .left }
+
+  pub walk-same : (i : ℕ) (us : List Task) (touched : ℕ) → i < length us → f (getD us i noTask) ≡ Kept (getD us i noTask) → Walk i us touched → Walk (i + 1) us touched
+  walk-same i us touched l e w = record { begun = begun-same ts i us touched (w .begun); left = each-same f noTask i us l e ∙ w .left }
 
   pub walk-out : (i : ℕ) (us : List Task) (touched : ℕ) (v : Value) → i < length us → f (getD us i noTask) ≡ RanOut v → Walk i us touched → each f ts ≡ NoPlan
   walk-out i us touched v l e w = sym (w .left) ∙ each-out f noTask v i us l e

@@ -1,5 +1,5 @@
 -- The task at a place is one of the tasks, and what narrowing it gives is what the page gives; one that no stretch can touch stays.
-use mathlib.Core.Path.{_≡_, refl, sym, ap, _∙_, subst}
+use mathlib.Core.Path.{_≡_, refl, sym, _∙_, subst}
 use mathlib.Core.Bool.{Bool, true, false}
 use mathlib.Core.List.{List, [], _∷_}
 use Prim.Native.Nat.{ℕ, zero, suc, _+_, _≤_, _<_}
@@ -7,8 +7,7 @@ use native.Mathlib.Nat.{not-suc-le-zero, le-of-suc-le-suc}
 use native.Mathlib.Omega.{arith}
 use lib.Dec.{eqb}
 use lib.IntN.{ℤ}
-use lib.ListN.{length, drop, getD}
-use lib.Seq.{drop-drop}
+use lib.ListN.{length, getD}
 use lib.Signed.{_≤ℤ_, ltZ}
 use Rattle.integers.specs.Tests.{if, or, any}
 use Rattle.integers.proofs.Z.{z}
@@ -28,7 +27,6 @@ use Rattle.rules.proofs.Walk.{eachLeft, each-start, each-same, each-end}
 use Rattle.rows.specs.View.{noTask}
 use Rattle.rows.specs.Fits.{AllFit}
 use Rattle.rows.proofs.Fits.{bounded-in}
-use Rattle.rows.proofs.Walk.{Begun}
 use Rattle.stretches.specs.declared.Stretch.{Stretch}
 use Rattle.stretches.specs.View.{noStretch, onDay}
 use Rattle.stretches.specs.Tells.{Quiet, Tells}
@@ -113,11 +111,6 @@ module _ (r : ℕ) (limit : ℤ → ℤ) (ss : List Stretch) (ts : List Task) (f
       (λ i. let q = quiet-on (omega (z, a)) (omega (z, b)) i in record { need = q .unneeded; bar = q .unbarred; height = q .unlifted })
       (live-fit task (fit-out task fits) (not-empty (fit k inside .some))))
       (λ h. away-kept r ts fit k inside limit h)
-
--- and the list is as it was
-pub begun-same : (ts : List Task) (i : ℕ) (us : List Task) (touched : ℕ) → Begun ts i us touched → Begun ts (i + 1) us touched
-begun-same ts i us touched w =
-    record { size = w .size; rest = sym (drop-drop 1 i us) ∙ ap (drop 1) (w .rest) ∙ drop-drop 1 i ts; noted = w .noted }
 
 -- where every task stays, so does the list
 all-kept : (f : Task → Narrowed) (ts : List Task) → ((k : ℕ) → k < length ts → f (getD ts k noTask) ≡ Kept (getD ts k noTask)) → (n : ℕ) → n ≤ length ts → eachLeft f n ts ≡ each f ts

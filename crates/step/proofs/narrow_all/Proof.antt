@@ -20,12 +20,12 @@ use Rattle.rows.specs.View.{tasksOf, noTask}
 use Rattle.rows.specs.Fits.{Bounded}
 use Rattle.rows.proofs.View.{length-tasks}
 use Rattle.rows.proofs.Fits.{bounded-in}
-use Rattle.rows.proofs.Walk.{Begun, begun-start, begun-next, begun-more}
+use Rattle.rows.proofs.Walk.{Begun, begun-start, begun-next, begun-more, begun-same}
 use Rattle.stretches.specs.declared.Stretch.{Stretch}
 use Rattle.stretches.specs.View.{stretchesOf}
 use Rattle.step.specs.Asks.{Told}
 use Rattle.step.specs.Least.{asksMore}
-use Rattle.step.proofs.Listed.{next-narrowed, calm-kept, begun-same}
+use Rattle.step.proofs.Listed.{next-narrowed, calm-kept}
 use Rattle.step.proofs.narrow_all.Statement.{statement}
 use Rattle.step.proofs.narrow_all.Tie as tie
 
