@@ -5,7 +5,8 @@ use mathlib.Core.List.{List, [], _∷_}
 use Prim.Native.Nat.{ℕ, _+_, _-_, _≤_}
 use native.Mathlib.Omega.{arith}
 use lib.Dec.{eqb, ltb}
-use lib.ListN.{length, getD}
+use lib.ListN.{length, getD, take, drop, length-drop, drop-of-length-le}
+use lib.Seq.{take-all}
 use borrow.Author.Tests.{eqb-true, eq-eqb, le-ltb}
 use mathlib.Core.Logic.{⊎-elim}
 use types.Run.{OneOf}
@@ -26,7 +27,7 @@ use Rattle.cursor.specs.declared.Record.{Record}
 use Rattle.cursor.specs.declared.Run.{Run}
 use Rattle.format.specs.Format.{mark, size, numbersIn, headerFrom, resourceFrom, taskFrom}
 use Rattle.format.specs.Reading.{marked, due}
-use Rattle.cursor.specs.Handed.{cursor, whole, recordOf, handed, sameMark, notDue, through}
+use Rattle.cursor.specs.Handed.{cursor, whole, recordOf, handed, recordAt, sameMark, notDue, through}
 use Rattle.format.proofs.Records.{due-length, due-marked}
 
 -- a whole record of that mark
@@ -51,6 +52,15 @@ apart j k bs e m =
     let p = eqb-true a (getD (mark j) 0 0) (and-first (eqb a (getD (mark j) 0 0)) (eqb (getD bs 1 0) (getD (mark j) 1 0)) m) in
     let q = eqb-true a (getD (mark k) 0 0) (and-first (eqb a (getD (mark k) 0 0)) (eqb (getD bs 1 0) (getD (mark k) 1 0)) n) in
     clash (sameMark j k) (eq-eqb (getD (mark j) 0 0) (getD (mark k) 0 0) (sym p ∙ q)) e)
+
+-- the rest of a file from a place on, as the code lends it; past the end there is none
+pub rest-handed : (file : List ℕ) (at : ℕ) → handed at (take (length file - at) (drop at file)) ≡ recordAt file at
+unfolding recordAt
+rest-handed file at = ap (handed at) (take-all (length file - at) (drop at file) (omega (arith, length-drop at file)))
+
+pub rest-none : (file : List ℕ) (at : ℕ) → length file ≤ at → Record.Ended ≡ recordAt file at
+unfolding recordAt handed
+rest-none file at h = rw (drop-of-length-le file h)
 
 -- a mark that stands there announces what is handed out
 pub handed-marked : (k : Mark) (at : ℕ) (bs : List ℕ) → 2 ≤ length bs → marked k bs ≡ true → handed at bs ≡ recordOf k at bs

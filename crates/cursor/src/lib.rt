@@ -183,7 +183,11 @@ impl Cursor {
     pub fn next(self, file: &[u8]) -> Record
         ensures { λ r. ⌜ r ≡ recordAt (now (file .entry)) (self .at) ⌝ }
     {
-        self.next_due(Mark::PL, file)
+        let at = self.at;
+        if at < file.len() {
+            return handed(at, &file[at..]);
+        }
+        Record::Ended
     }
 
     // The same record, found sooner where it is the one that is due.
