@@ -18,8 +18,8 @@ use Rattle.stretches.specs.declared.Stretch.{Stretch}
 use Rattle.stretches.specs.View.{noStretch, onDay}
 use Rattle.stretches.specs.Tells.{slackOn, tightOn, Tells}
 use Rattle.searches.specs.Searches.{holds, barredPart, neededPart, OnPart, Found, Told}
-use Rattle.searches.proofs.Parts.{part-out, part-in}
-use Rattle.narrow.specs.Ready.{possibleDays, runningDays, under, reachOf}
+use Rattle.searches.proofs.Parts.{holds-in, part-out, part-in}
+use Rattle.narrow.specs.Ready.{possibleDays, runningDays, under, reachOf, Free}
 use Rattle.narrow.proofs.Others.{Fit, possible-in, possible-out, sure-running, sure-in, only-has, barred-is, barred-in, barred-out, barred-sure, needed-is, needed-in, needed-out, no-short}
 
 -- ---- a place where a test holds
@@ -138,3 +138,15 @@ module _ (r : ℕ) (limit : ℤ → ℤ) (ts : List Task) (t : Task) (fit : Fit 
           right = λ j l i o. and-in (only (t .set) r) (barred r limit ts t i) alone (bar-right j l i o);
           whole = λ i e. bar-whole i (and-second (only (t .set) r) (barred r limit ts t i) e);
         }
+
+-- ---- a task that has as much as it asks on every possible day has no barred one
+pub free-told : (t : Task) (ss : List Stretch) (q : ℤ → Bool) → Told (barredPart (reachOf t)) ss q → Free t ss → (i : ℤ) → q i ≡ true → ⊥
+free-told t ss q told free i e =
+    let f = told .whole i e in
+    let s = getD ss (f .at) noStretch in
+    let low = ltZ (s .slack .0) (under t) in
+    let off = not (holds (runningDays t) (s .from .0)) in
+    let n = part-out (possibleDays t) s (and low off) i (f .day) in
+    let h : low ≡ true = and-first low off (f .day .hit) in
+    let b = free .enough (s .slack .0) (record { at = f .at; inside = f .inside; day = i; among = holds-in (possibleDays t) i (n .late) (n .early); on = n .on; is = refl }) in
+    omega (z, h, b)

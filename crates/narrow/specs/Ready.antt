@@ -25,7 +25,7 @@ use Rattle.stretches.specs.declared.Stretch.{Stretch}
 use Rattle.stretches.specs.Tells.{Tells}
 use Rattle.searches.specs.declared.Days.{Days}
 use Rattle.searches.specs.declared.Reach.{Reach}
-use Rattle.searches.specs.Searches.{neededPart, Told, Least}
+use Rattle.searches.specs.Searches.{neededPart, Told, Slack, Least}
 
 -- a place of a set, and a task that has passed the entry checks
 pub record Ready (r : ℕ) (t : Task) : Type 0 where
@@ -75,6 +75,10 @@ withNeeds r s t =
 pub record NeedsTold (t : Task) (ss : List Stretch) (q : ℤ → Bool) : Type 0 where
   pub told : ltZ (pos 0) (t .height .high .0) ≡ true → Told (neededPart (possibleDays t) (t .height .high)) ss q
   pub none : ltZ (pos 0) (t .height .high .0) ≡ false → (i : ℤ) → q i ≡ true → ⊥
+
+-- no possible day leaves the task less than it asks
+pub record Free (t : Task) (ss : List Stretch) : Type 0 where
+  pub enough : (y : ℤ) → Slack ss (possibleDays t) y → under t ≤ℤ y
 
 -- a height of one value stays; any other is lifted to the highest less the least slack on the running days, which is not below 0 where
 -- there is no shortfall

@@ -17,7 +17,7 @@ ghost use Rattle.rules.specs.Step.{shortfall, listedDays, narrowed};
 ghost use Rattle.stretches.specs.View.{stretchesOf};
 ghost use Rattle.stretches.specs.Tells.{Tells};
 ghost use Rattle.searches.specs.Searches.{Needed, Between, Dated};
-ghost use Rattle.narrow.specs.Ready.{Ready, Among, Known, possibleDays, runningDays, under, reachOf, withNeeds, NeedsTold, Lifted, Still, withoutHere, finished};
+ghost use Rattle.narrow.specs.Ready.{Ready, Among, Known, possibleDays, runningDays, under, reachOf, withNeeds, NeedsTold, Free, Lifted, Still, withoutHere, finished};
 use plan::Narrowed;
 use plan::Power;
 use plan::PowerSpan;
@@ -155,8 +155,8 @@ fn finish(t: Task) -> Narrowed
     Narrowed::Kept(t)
 }
 
-// A task that is only here.
-fn narrow_only(ss: &[[i64; 4]], t: Task, r: u64) -> Task
+// A task that is only here, some of whose days may be barred.
+fn narrow_barred(ss: &[[i64; 4]], t: Task, r: u64) -> Task
     requires { ⌜ Ready r t × (t .origin .low .0 <ℤ t .end .high .0) ⌝ }
     ensures { λ u. ⌜ ((limit : ℤ → ℤ) (ts : List Task) → Known r limit ts t (stretchesOf (now (ss .entry))) → only (t .set) r ≡ true → finished u ≡ narrowed r limit ts (listedDays ts) t) ⌝ }
 {
@@ -182,6 +182,47 @@ fn narrow_only(ss: &[[i64; 4]], t: Task, r: u64) -> Task
         end: e,
         height: h,
     }
+}
+
+// Whether no possible day leaves the task less than it asks: then none is barred.
+fn is_free(ss: &[[i64; 4]], t: Task) -> bool
+    requires { ⌜ rangesFit t ≡ true ⌝ }
+    ensures { λ b. ⌜ (b ≡ true → Free t (stretchesOf (now (ss .entry)))) ⌝ }
+{
+    let b = under(t);
+    let x = searches::least_slack(ss, possible_days(t), b);
+    b.up_to(x)
+}
+
+// A task that is only here and has no barred day: needs and its height are all that can change.
+fn narrow_free(ss: &[[i64; 4]], t: Task, r: u64) -> Task
+    requires { ⌜ Ready r t × (t .origin .low .0 <ℤ t .end .high .0) ⌝ }
+    ensures { λ u. ⌜ ((limit : ℤ → ℤ) (ts : List Task) → Known r limit ts t (stretchesOf (now (ss .entry))) → only (t .set) r ≡ true → Free t (stretchesOf (now (ss .entry))) → finished u ≡ narrowed r limit ts (listedDays ts) t) ⌝ }
+{
+    let s = needs_of(ss, t);
+    let u = with_needs(t, r, s);
+    let origin = u.origin;
+    let duration = t.duration;
+    let end = u.end;
+    let h = lifted(ss, t);
+    Task {
+        set: u.set,
+        origin: origin,
+        duration: duration,
+        end: end,
+        height: h,
+    }
+}
+
+// A task that is only here.
+fn narrow_only(ss: &[[i64; 4]], t: Task, r: u64) -> Task
+    requires { ⌜ Ready r t × (t .origin .low .0 <ℤ t .end .high .0) ⌝ }
+    ensures { λ u. ⌜ ((limit : ℤ → ℤ) (ts : List Task) → Known r limit ts t (stretchesOf (now (ss .entry))) → only (t .set) r ≡ true → finished u ≡ narrowed r limit ts (listedDays ts) t) ⌝ }
+{
+    if is_free(ss, t) {
+        return narrow_free(ss, t, r);
+    }
+    narrow_barred(ss, t, r)
 }
 
 // "r leaves its set"
