@@ -19,6 +19,7 @@ LABELS = 86
 DAYS = 440
 GAP = 44
 ROW = 26
+TALLEST = 30000
 BAR = 14
 LANE_HEAD = 34
 STRIP = 46
@@ -572,7 +573,8 @@ def whole(parts, width, height, title):
     """The drawing's outermost element."""
     ground = box(0, 0, width, height, fill=PAPER)
     inner = "\n".join([element("title", escape(title)), hatch(), ground, *parts])
+    shown = min(1, TALLEST / height)  # a plan of many tasks on many resources is shown smaller: viewers refuse what is taller
     return '<?xml version="1.0" encoding="UTF-8"?>\n' + element(
-        "svg", f"\n{inner}\n", xmlns="http://www.w3.org/2000/svg", width=width, height=height,
+        "svg", f"\n{inner}\n", xmlns="http://www.w3.org/2000/svg", width=width * shown, height=height * shown,
         viewBox=f"0 0 {number(width)} {number(height)}", font_family=FONT,
     ) + "\n"

@@ -1,5 +1,5 @@
 /* Settles case 9 of the page through the C boundary, then a plan that has none: its output buffer has to be as it was.
- * Built and run by tests/40-embed; by hand: cc -Iinclude examples/embed/settle.c "$(tools/archive)" -o settle && ./settle */
+ * Built and run by tests/40-embed; by hand: cc -Iinclude examples/embed/settle.c "$(tools/archive)" -o /tmp/embed && /tmp/embed, in the repository */
 #include <stdio.h>
 #include <string.h>
 #include "gristwaltz.h"

@@ -1,5 +1,5 @@
 // Settles case 9 of the page from Rust, then a plan that has none: its output buffer has to be as it was.
-// Built and run by tests/40-embed; by hand: rustc examples/embed/settle.rs -C link-arg="$(tools/archive)" && ./settle
+// Built and run by tests/40-embed; by hand: rustc examples/embed/settle.rs -C link-arg="$(tools/archive)" -o /tmp/embed && /tmp/embed, in the repository
 
 // What libgristwaltz.a exports; a byte slice is a pointer and a length.
 mod engine {
