@@ -14,11 +14,11 @@ use Rattle.rows.specs.View.{tasksOf, resourcesOf}
 use Rattle.rows.proofs.View.{length-tasks, length-resources}
 use Rattle.engine.specs.Calls.{placedIn}
 use Rattle.format.specs.Writing.{written}
-use Rattle.gristwaltz.specs.Files.{fileResult, fileLength}
-use Rattle.gristwaltz.proofs.Files.{length-written, plan-unplaced, plan-short, plan-works}
+use Rattle.calls.specs.Files.{fileResult, fileLength}
+use Rattle.calls.proofs.Files.{length-written, plan-unplaced, plan-short, plan-works}
 use borrow.Author.Needs.{needs}
-use Rattle.gristwaltz.proofs.call_plan.Statement.{statement}
-use Rattle.gristwaltz.proofs.call_plan.Tie as tie
+use Rattle.calls.proofs.call_plan.Statement.{statement}
+use Rattle.calls.proofs.call_plan.Tie as tie
 
 abbrev qs : tie.Start → List Resource
 qs c = resourcesOf (c .args .q .now)

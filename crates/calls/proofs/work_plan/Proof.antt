@@ -17,11 +17,11 @@ use Rattle.engine.specs.Answers.{resultOf}
 use Rattle.engine.specs.Calls.{callOf, placedIn}
 use Rattle.format.specs.Writing.{written, laid}
 use Rattle.format.specs.Writing.{WriteResult}
-use Rattle.gristwaltz.specs.Files.{FileResult, fileResult, fileLength, resultFile}
-use Rattle.gristwaltz.proofs.Files.{call-accepted, length-written, fits-laid}
+use Rattle.calls.specs.Files.{FileResult, fileResult, fileLength, resultFile}
+use Rattle.calls.proofs.Files.{call-accepted, length-written, fits-laid}
 use borrow.Author.Needs.{needs}
-use Rattle.gristwaltz.proofs.work_plan.Statement.{statement}
-use Rattle.gristwaltz.proofs.work_plan.Tie as tie
+use Rattle.calls.proofs.work_plan.Statement.{statement}
+use Rattle.calls.proofs.work_plan.Tie as tie
 
 abbrev qs : tie.Start → List Resource
 qs c = resourcesOf (c .args .q .now)

@@ -3,11 +3,11 @@ use native.Mathlib.Omega.{arith}
 use mathlib.Core.Path.{_≡_, refl, sym, ap, _∙_}
 use Rattle.rules.specs.Calls.{mostResources, mostTasks}
 use Rattle.format.specs.Reading.{readPlan}
-use Rattle.gristwaltz.specs.Files.{readNumber, checkFile}
-use Rattle.gristwaltz.proofs.Files.{got, got-none}
+use Rattle.calls.specs.Files.{readNumber, checkFile}
+use Rattle.calls.proofs.Files.{got, got-none}
 use borrow.Author.Needs.{needs}
-use Rattle.gristwaltz.proofs.gristwaltz_check.Statement.{statement}
-use Rattle.gristwaltz.proofs.gristwaltz_check.Tie as tie
+use Rattle.calls.proofs.check_file.Statement.{statement}
+use Rattle.calls.proofs.check_file.Tie as tie
 
 slice-aggregate-read-plan : tie.Need-slice-aggregate-read-plan
 slice-aggregate-read-plan c = search needs
@@ -42,8 +42,8 @@ returns-2 c =
     let a = c .enum-told .given in
     ap readNumber (sym (got (readPlan mostResources mostTasks (d .before .before .before .before .args .file .now)) (a .0 .0) (a .0 .1 .0) (a .0 .1 .1 .0) (sym (d .read-plan .ensures .0) ∙ a .1) .is))
 
-pub gristwaltz-check-spec : {M : Type 1} → statement M
-gristwaltz-check-spec =
+pub check-file-spec : {M : Type 1} → statement M
+check-file-spec =
     tie.close
     (tie.spec
     slice-aggregate-read-plan

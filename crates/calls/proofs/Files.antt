@@ -37,7 +37,7 @@ use Rattle.format.specs.Numbers.{bytesOf}
 use Rattle.format.specs.Format.{senseFrom, recordBytes, fieldBytes, headerNumbers, resourceNumbers, taskNumbers}
 use Rattle.format.specs.declared.WriteAnswer.the-variants.{Written}
 use Rattle.format.specs.Writing.{recordsBytes, headerOf, written, laid, writeResult, writtenIn, roomFor}
-use Rattle.gristwaltz.specs.Files.{FileResult, fileLength, fileResult, refusedFile, resultFile, lentFits, unlessRefusedFile, planCall, afterRead, fileCall}
+use Rattle.calls.specs.Files.{FileResult, fileLength, fileResult, refusedFile, resultFile, lentFits, unlessRefusedFile, planCall, afterRead, fileCall}
 
 pub number-small : (f : Refusal) → number f ≤ 12
 number-small TooManyTasks = omega arith

@@ -1,9 +1,9 @@
 -- Twelve numbers times 2^32, and a place below 2^32, fit.
 use native.Mathlib.Omega.{arith}
-use Rattle.gristwaltz.proofs.Files.{number-small}
+use Rattle.calls.proofs.Files.{number-small}
 use borrow.Author.Needs.{needs}
-use Rattle.gristwaltz.proofs.refusal_number.Statement.{statement}
-use Rattle.gristwaltz.proofs.refusal_number.Tie as tie
+use Rattle.calls.proofs.refusal_number.Statement.{statement}
+use Rattle.calls.proofs.refusal_number.Tie as tie
 
 number-requires : tie.Need-number-requires
 number-requires c κs = search needs

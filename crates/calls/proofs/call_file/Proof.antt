@@ -4,8 +4,8 @@ use mathlib.Core.Path.{_≡_, ap}
 use Rattle.format.specs.declared.Header.{Header}
 use Rattle.format.specs.Reading.{headerIn}
 use borrow.Author.Needs.{needs}
-use Rattle.gristwaltz.proofs.call_file.Statement.{statement}
-use Rattle.gristwaltz.proofs.call_file.Tie as tie
+use Rattle.calls.proofs.call_file.Statement.{statement}
+use Rattle.calls.proofs.call_file.Tie as tie
 
 call-large-requires : tie.Need-call-large-requires
 call-large-requires c κs = search needs

@@ -15,12 +15,12 @@ use Rattle.rows.specs.View.{tasksOf, resourcesOf}
 use Rattle.rows.proofs.View.{length-tasks, length-resources, tasks-take, resources-take}
 use Rattle.format.specs.declared.ReadAnswer.{ReadAnswer}
 use Rattle.format.specs.Reading.{readPlan}
-use Rattle.gristwaltz.specs.Files.{fileResult, planCall, afterRead, fileCall}
+use Rattle.calls.specs.Files.{fileResult, planCall, afterRead, fileCall}
 use borrow.Author.Needs.{needs}
 use Rattle.format.proofs.Files.{Told, told, refused}
-use Rattle.gristwaltz.proofs.Files.{got-accepted, rows-enough}
-use Rattle.gristwaltz.proofs.call_lent.Statement.{statement}
-use Rattle.gristwaltz.proofs.call_lent.Tie as tie
+use Rattle.calls.proofs.Files.{got-accepted, rows-enough}
+use Rattle.calls.proofs.call_lent.Statement.{statement}
+use Rattle.calls.proofs.call_lent.Tie as tie
 
 -- what was read
 module _ (c : tie.After-read-plan) where
