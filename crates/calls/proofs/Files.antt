@@ -21,10 +21,10 @@ use Rattle.rules.specs.Calls.{Checked, orElse, check, mostTasks, Result, done, 
 use Rattle.rules.specs.Calls.Checked.{Accepted, Refuse}
 use Rattle.rules.proofs.Subs.{Subs, subs-length}
 use Rattle.engine.specs.declared.Call.{Call}
-use Rattle.engine.specs.Facing.{resourcesFacing, tasksFacing}
+use Rattle.passes.specs.Facing.{resourcesFacing, tasksFacing}
 use Rattle.engine.specs.Answers.{resultOf}
 use Rattle.engine.specs.Calls.{callOf, placedIn, workOf}
-use Rattle.engine.proofs.Facing.{length-facing, check-facing, tasks-back}
+use Rattle.passes.proofs.Facing.{length-facing, check-facing, tasks-back}
 use Rattle.engine.proofs.Calls.{resultBack, call-worked, work-accepted}
 use Rattle.format.specs.declared.ReadAnswer.{ReadAnswer}
 use Rattle.format.specs.Reading.{Read, readPlan, readAnswer, headerIn, resourcesIn, tasksIn, shapeDue}

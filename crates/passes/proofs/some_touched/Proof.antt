@@ -1,7 +1,7 @@
 -- What had changed before, or what a step touched.
 use borrow.Author.Needs.{needs}
-use Rattle.engine.proofs.some_touched.Statement.{statement}
-use Rattle.engine.proofs.some_touched.Tie as tie
+use Rattle.passes.proofs.some_touched.Statement.{statement}
+use Rattle.passes.proofs.some_touched.Tie as tie
 
 returns : tie.Need-returns
 returns c = search needs

@@ -13,9 +13,9 @@ use Rattle.plan.specs.Powers.{power, powerFits}
 use Rattle.rows.specs.View.{resourcesOf, noResource}
 use Rattle.rows.proofs.View.{length-resources}
 use Rattle.rows.proofs.Fits.{limit-out}
-use Rattle.engine.proofs.Facing.{limit-least, limit-most}
-use Rattle.engine.proofs.limit_facing.Statement.{statement}
-use Rattle.engine.proofs.limit_facing.Tie as tie
+use Rattle.passes.proofs.Facing.{limit-least, limit-most}
+use Rattle.passes.proofs.limit_facing.Statement.{statement}
+use Rattle.passes.proofs.limit_facing.Tie as tie
 
 inside : (c : tie.Start) → c .args .r < length (resourcesOf (c .args .q .now))
 inside c = rw length-resources (c .pre .0)

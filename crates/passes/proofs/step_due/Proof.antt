@@ -21,12 +21,12 @@ use Rattle.rows.specs.Changes.{outcomeOf, union}
 use Rattle.rows.specs.Fits.{TaskFits}
 use Rattle.rows.proofs.View.{length-tasks, length-resources}
 use Rattle.rows.proofs.Fits.{Accepts, accepts}
-use Rattle.engine.specs.Facing.{resourcesFacing}
-use Rattle.engine.specs.Mask.{Noted}
-use Rattle.engine.proofs.Facing.{length-facing}
-use Rattle.engine.proofs.Mask.{step-keeps, step-noted, unchanged-noted, limited, fits-wide}
-use Rattle.engine.proofs.step_due.Statement.{statement}
-use Rattle.engine.proofs.step_due.Tie as tie
+use Rattle.passes.specs.Facing.{resourcesFacing}
+use Rattle.passes.specs.Mask.{Noted}
+use Rattle.passes.proofs.Facing.{length-facing}
+use Rattle.passes.proofs.Mask.{step-keeps, step-noted, unchanged-noted, limited, fits-wide}
+use Rattle.passes.proofs.step_due.Statement.{statement}
+use Rattle.passes.proofs.step_due.Tie as tie
 
 abbrev qs : tie.Start → List Resource
 qs c = resourcesFacing (c .args .sense) (resourcesOf (c .args .q .now))

@@ -12,10 +12,10 @@ use Rattle.plan.specs.declared.Sense.{Sense}
 use Rattle.plan.specs.declared.Resource.{Resource}
 use Rattle.rules.specs.Settle.{rooms}
 use Rattle.rows.specs.View.{tasksOf, resourcesOf}
-use Rattle.engine.specs.Facing.{resourcesFacing}
-use Rattle.engine.proofs.Passes.{Settles, settles-start, settles-none, settles-last, settles-less, settles-more, rooms-most}
-use Rattle.engine.proofs.settle_rows.Statement.{statement}
-use Rattle.engine.proofs.settle_rows.Tie as tie
+use Rattle.passes.specs.Facing.{resourcesFacing}
+use Rattle.passes.proofs.Passes.{Settles, settles-start, settles-none, settles-last, settles-less, settles-more, rooms-most}
+use Rattle.passes.proofs.settle_rows.Statement.{statement}
+use Rattle.passes.proofs.settle_rows.Tie as tie
 
 abbrev facing : Sense → List (List ℤ) → List Resource
 facing sense q = resourcesFacing sense (resourcesOf q)

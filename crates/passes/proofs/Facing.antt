@@ -16,7 +16,7 @@ use Rattle.rules.specs.Settle.{Settled, settle}
 use Rattle.rules.specs.Calls.{check}
 use Rattle.rules.proofs.Negation.{negatedResource, negateds-back, check-negated, settle-negated, negatedSettled}
 use Rattle.rows.specs.View.{noResource}
-use Rattle.engine.specs.Facing.{facing, turned, resourcesFacing, tasksFacing}
+use Rattle.passes.specs.Facing.{facing, turned, resourcesFacing, tasksFacing}
 
 pub length-facing : (sense : Sense) (qs : List Resource) → length (resourcesFacing sense qs) ≡ length qs
 length-facing sense [] = refl

@@ -18,12 +18,12 @@ use Rattle.rules.proofs.Keeps.{Keeps}
 use Rattle.rows.specs.View.{tasksOf, resourcesOf, noTask}
 use Rattle.rows.specs.Changes.{outcomeOf, union, touchedBy}
 use Rattle.rows.proofs.Fits.{accepts}
-use Rattle.engine.specs.Facing.{resourcesFacing}
-use Rattle.engine.specs.Mask.{Noted}
-use Rattle.engine.proofs.Mask.{balance-keeps, balance-noted}
-use Rattle.engine.proofs.Passing.{noted-more, steps-keep, pass-none, pass-plan}
-use Rattle.engine.proofs.pass_rows.Statement.{statement}
-use Rattle.engine.proofs.pass_rows.Tie as tie
+use Rattle.passes.specs.Facing.{resourcesFacing}
+use Rattle.passes.specs.Mask.{Noted}
+use Rattle.passes.proofs.Mask.{balance-keeps, balance-noted}
+use Rattle.passes.proofs.Passing.{noted-more, steps-keep, pass-none, pass-plan}
+use Rattle.passes.proofs.pass_rows.Statement.{statement}
+use Rattle.passes.proofs.pass_rows.Tie as tie
 
 abbrev qs : tie.Start → List Resource
 qs c = resourcesFacing (c .args .sense) (resourcesOf (c .args .q .now))

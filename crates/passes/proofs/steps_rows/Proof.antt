@@ -13,11 +13,11 @@ use Rattle.plan.specs.declared.Sense.{Sense}
 use Rattle.plan.specs.declared.Resource.{Resource}
 use Rattle.rows.specs.View.{tasksOf, resourcesOf}
 use Rattle.rows.proofs.View.{length-resources}
-use Rattle.engine.specs.Facing.{resourcesFacing}
-use Rattle.engine.proofs.Facing.{length-facing}
-use Rattle.engine.proofs.Passing.{Passing, passing-start, passing-more, passing-none, passing-end}
-use Rattle.engine.proofs.steps_rows.Statement.{statement}
-use Rattle.engine.proofs.steps_rows.Tie as tie
+use Rattle.passes.specs.Facing.{resourcesFacing}
+use Rattle.passes.proofs.Facing.{length-facing}
+use Rattle.passes.proofs.Passing.{Passing, passing-start, passing-more, passing-none, passing-end}
+use Rattle.passes.proofs.steps_rows.Statement.{statement}
+use Rattle.passes.proofs.steps_rows.Tie as tie
 
 abbrev facing : Sense → List (List ℤ) → List Resource
 facing sense q = resourcesFacing sense (resourcesOf q)

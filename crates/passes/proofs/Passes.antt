@@ -33,8 +33,8 @@ use Rattle.rules.proofs.Checks.Accepts.{no-tasks, more-tasks}
 use Rattle.rows.specs.Changes.{outcomeOf}
 use Rattle.rows.specs.Fits.{Bounded}
 use Rattle.rows.proofs.Fits.{bounded-out}
-use Rattle.engine.specs.Mask.{Idle, Noted}
-use Rattle.engine.proofs.Mask.{has-ones}
+use Rattle.passes.specs.Mask.{Idle, Noted}
+use Rattle.passes.proofs.Mask.{has-ones}
 
 -- n passes before those that s counts
 abbrev pub plusPasses : ℕ → Settled → Settled

@@ -31,8 +31,8 @@ use Rattle.integers.proofs.Tests.{by-cases}
 use Rattle.rows.specs.View.{noResource}
 use Rattle.rows.specs.Changes.{outcomeOf}
 use Rattle.rows.proofs.Changes.{same-tasks-is}
-use Rattle.engine.specs.Mask.{Idle, Noted}
-use Rattle.engine.proofs.Mask.{step-keeps, unchanged-noted}
+use Rattle.passes.specs.Mask.{Idle, Noted}
+use Rattle.passes.proofs.Mask.{step-keeps, unchanged-noted}
 
 -- the step of place r, then those after it
 pub steps-more : (r : ℕ) (qs : List Resource) (ts : List Task) → r < length qs

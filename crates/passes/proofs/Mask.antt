@@ -43,7 +43,7 @@ use Rattle.rows.specs.Changes.{union, touchedBy}
 use Rattle.rows.proofs.Changes.{same-task-is, union-has, touched-tells, same-tasks-self}
 use Rattle.rows.specs.Fits.{TaskFits}
 use Rattle.rows.proofs.Fits.{accepts}
-use Rattle.engine.specs.Mask.{Idle, Noted}
+use Rattle.passes.specs.Mask.{Idle, Noted}
 
 or-none : (a b : Bool) → or a b ≡ false → (a ≡ false) × (b ≡ false)
 or-none true b h = clash true refl h
