@@ -31,12 +31,13 @@ use Rattle.rows.specs.View.{noResource}
 use Rattle.rows.specs.Changes.{outcomeOf}
 use Rattle.engine.specs.declared.Call.{Call}
 use Rattle.engine.specs.declared.Call.the-variants.{Check, Balance, Step, Pass, Settle}
-use Rattle.engine.specs.Facing.{facing, turned, resourcesFacing, tasksFacing}
-use Rattle.engine.specs.Answers.{settledOf, leftOf}
-use Rattle.engine.specs.Mask.{Idle}
+use Rattle.passes.specs.Facing.{facing, turned, resourcesFacing, tasksFacing}
+use Rattle.passes.specs.Answers.{settledOf}
+use Rattle.engine.specs.Answers.{leftOf}
+use Rattle.passes.specs.Mask.{Idle}
 use Rattle.engine.specs.Calls.{callOf, placedIn, everyPlace, outcomeSettled, workOf}
-use Rattle.engine.proofs.Mask.{balance-keeps, step-keeps, has-ones}
-use Rattle.engine.proofs.Facing.{facing-at, resources-least, tasks-least, resources-most, tasks-most, tasks-back}
+use Rattle.passes.proofs.Mask.{balance-keeps, step-keeps, has-ones}
+use Rattle.passes.proofs.Facing.{facing-at, resources-least, tasks-least, resources-most, tasks-most, tasks-back}
 
 -- ---- turned back
 abbrev pub turnedPlan : Sense → Outcome → Outcome

@@ -1,8 +1,3 @@
--- The laws of the engine: what faces it, the mask, the steps of a pass, the passes of settling, room for them, and the wrong programs shut out.
-pub mod Facing
-pub mod Mask
-pub mod Passing
-pub mod Passes
+-- The laws of the calls on rows, and the wrong programs shut out.
 pub mod Calls
-pub mod Room
 pub mod Wrong

@@ -5,15 +5,9 @@ use mathlib.Core.List.{List}
 use Rattle.plan.specs.declared.Task.{Task}
 use Rattle.plan.specs.declared.Answer.{Answer}
 use Rattle.plan.specs.declared.Answer.the-variants.{Done, Refused}
-use Rattle.rules.specs.Settle.{Settled}
 use Rattle.rules.specs.Calls.{Result, done, refused}
-use Rattle.engine.specs.declared.Settling.{Settling}
-use Rattle.engine.specs.declared.Settling.the-variants.{After, NoPlan}
-
--- settled after so many passes with what the list holds now, or no plan: then what the list holds counts for nothing
-abbrev pub settledOf : Settling → List Task → Settled
-settledOf (After n) us = Settled.After n us
-settledOf NoPlan us = Settled.Refused
+use Rattle.passes.specs.declared.Settling.{Settling}
+use Rattle.passes.specs.declared.Settling.the-variants.{After, NoPlan}
 
 -- what a step or a pass leaves: it reports no passes
 abbrev pub leftOf : Bool → Settling

@@ -1,5 +1,3 @@
--- What the engine keeps beside the list, and what its answers stand for.
-pub mod Facing
-pub mod Mask
+-- What the calls are, and what their answers stand for.
 pub mod Answers
 pub mod Calls

@@ -2,7 +2,7 @@
 use native.Mathlib.Omega.{arith}
 use borrow.Author.Needs.{needs}
 use Rattle.rows.specs.View.{resourcesOf}
-use Rattle.engine.proofs.Room.{roomy}
+use Rattle.passes.proofs.Room.{roomy}
 use Rattle.arrays.proofs.work_rows.Statement.{statement}
 use Rattle.arrays.proofs.work_rows.Tie as tie
 

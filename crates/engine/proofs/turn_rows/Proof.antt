@@ -2,8 +2,8 @@
 use mathlib.Core.Path.{_≡_, sym, ap, _∙_}
 use Rattle.plan.specs.declared.Sense.{Sense}
 use Rattle.rows.specs.View.{tasksOf}
-use Rattle.engine.specs.Facing.{tasksFacing}
-use Rattle.engine.proofs.Facing.{tasks-least, tasks-most}
+use Rattle.passes.specs.Facing.{tasksFacing}
+use Rattle.passes.proofs.Facing.{tasks-least, tasks-most}
 use borrow.Author.Needs.{needs}
 use Rattle.engine.proofs.turn_rows.Statement.{statement}
 use Rattle.engine.proofs.turn_rows.Tie as tie

@@ -18,10 +18,11 @@ use Rattle.rows.specs.View.{tasksOf, resourcesOf, noTask, noResource}
 use Rattle.rows.proofs.View.{length-resources}
 use Rattle.rows.proofs.Fits.{accepts}
 use Rattle.engine.specs.declared.Call.{Call}
-use Rattle.engine.specs.declared.Settling.{Settling}
-use Rattle.engine.specs.Facing.{resourcesFacing}
-use Rattle.engine.specs.Mask.{Idle}
-use Rattle.engine.specs.Answers.{settledOf, leftOf}
+use Rattle.passes.specs.declared.Settling.{Settling}
+use Rattle.passes.specs.Facing.{resourcesFacing}
+use Rattle.passes.specs.Mask.{Idle}
+use Rattle.passes.specs.Answers.{settledOf}
+use Rattle.engine.specs.Answers.{leftOf}
 use Rattle.engine.specs.Calls.{placedIn, workOf}
 use Rattle.engine.proofs.Calls.{left-settled, all-idle}
 use borrow.Author.Needs.{needs}

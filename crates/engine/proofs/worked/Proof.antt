@@ -13,11 +13,11 @@ use Rattle.rules.specs.Calls.Checked.{Accepted}
 use Rattle.rows.specs.View.{tasksOf, resourcesOf, noTask}
 use Rattle.rows.proofs.View.{length-resources}
 use Rattle.rows.proofs.Fits.{accepts}
-use Rattle.engine.specs.Facing.{resourcesFacing, tasksFacing}
-use Rattle.engine.specs.Answers.{settledOf}
-use Rattle.engine.specs.declared.Settling.{Settling}
+use Rattle.passes.specs.Facing.{resourcesFacing, tasksFacing}
+use Rattle.passes.specs.Answers.{settledOf}
+use Rattle.passes.specs.declared.Settling.{Settling}
 use Rattle.engine.specs.Calls.{placedIn, callOf, workOf}
-use Rattle.engine.proofs.Facing.{length-facing, check-facing}
+use Rattle.passes.proofs.Facing.{length-facing, check-facing}
 use Rattle.engine.proofs.Calls.{resultBack, call-worked, work-accepted}
 use borrow.Author.Needs.{needs}
 use Rattle.engine.proofs.worked.Statement.{statement}

@@ -16,7 +16,7 @@ use Rattle.rows.proofs.View.{tasks-take, resources-take}
 use Rattle.rows.proofs.Fits.{accepts}
 use Rattle.format.specs.declared.ReadAnswer.{ReadAnswer}
 use Rattle.format.specs.Reading.{Read, readPlan}
-use Rattle.gristwaltz.proofs.Files.{Got, got, got-none, got-accepted}
+use Rattle.calls.proofs.Files.{Got, got, got-none, got-accepted}
 use Rattle.text.proofs.Texts.{put-wider}
 use Rattle.report.specs.Report.{resultText, readText, reportOf, mostText}
 use Rattle.report.proofs.Told.{told}

@@ -15,7 +15,7 @@ use Rattle.engine.specs.Answers.{resultOf}
 use Rattle.text.proofs.Texts.{put-is, put-wider}
 use Rattle.report.specs.Report.{resultText}
 use borrow.Author.Needs.{needs}
-use Rattle.engine.proofs.Room.{roomy}
+use Rattle.passes.proofs.Room.{roomy}
 use Rattle.report.proofs.report_plan.Statement.{statement}
 use Rattle.report.proofs.report_plan.Tie as tie
 
