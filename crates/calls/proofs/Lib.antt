@@ -1,2 +1,3 @@
 -- Laws of the calls on plan files.
 pub mod Files
+pub mod Answers

@@ -7,3 +7,4 @@ pub mod Runs
 pub mod Passed
 pub mod Files
 pub mod RoundTrip
+pub mod Refusing

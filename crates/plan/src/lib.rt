@@ -373,7 +373,7 @@ impl Refusal {
     }
 }
 
-// What a call answers: done, after so many passes (0 for a call that makes none), or one refusal.
+// What a call answers: done, after so many passes of settling (0 for every other call), or one refusal.
 pub enum Answer {
     Done(u64),
     Refused(Refusal),

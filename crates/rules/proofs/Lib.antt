@@ -29,3 +29,4 @@ pub mod Still
 pub mod Sizes
 pub mod Once
 pub mod Theorems
+pub mod Bounds

@@ -85,7 +85,7 @@ pub record Result : Type 0 where
 abbrev pub refused : Refusal → List Task → Result
 refused f ts = record { answer = Refused f; tasks = ts }
 
--- after so many passes ("a refusal reports 0"; a call that makes no pass, 0)
+-- after so many passes of settling ("a refusal reports 0"; every other call reports 0 too)
 abbrev pub done : ℕ → List Task → Result
 done n ts = record { answer = Done n; tasks = ts }
 
