@@ -32,15 +32,15 @@ use Rattle.calls.specs.Files.{FileResult, fileResult, answerNumber, answ
 use Rattle.calls.proofs.Files.{got-accepted}
 
 -- ---- what a call comes to, before it is made one number
-abbrev unlessShort : Checked → Answer → Answer
-unlessShort Checked.Accepted x = x
-unlessShort (Checked.Refuse f) x = Refused f
+abbrev unlessUnfit : Checked → Answer → Answer
+unlessUnfit Checked.Accepted x = x
+unlessUnfit (Checked.Refuse f) x = Refused f
 
 abbrev readOutcome : Call → List ℕ → Read → Answer
-readOutcome c out (Read.Plan sense qs ts) = unlessShort (lentFits c qs (written sense qs ts) out) (callOf c sense qs ts .answer)
+readOutcome c out (Read.Plan sense qs ts) = unlessUnfit (lentFits c qs (written sense qs ts) out) (callOf c sense qs ts .answer)
 readOutcome c out (Read.Refuse f) = Refused f
 
--- the refusal of the reader; else that of a lent output; else what the page's call answers
+-- the reader's refusal; else 12 for a place or 10 for an output that is too short; else what the page's call answers
 abbrev pub fileOutcome : Call → List ℕ → List ℕ → Answer
 fileOutcome c file out = readOutcome c out (readPlan mostResources mostTasks file)
 
@@ -113,7 +113,7 @@ lent-placed c qs file out =
     let short = ltb (length out) (length file) in
     placed-unless 0 (not (placedIn (length qs) c)) NoSuchResource (refuseIf short BufferShort) (omega arith) (λ e. placed-if 0 short BufferShort (omega arith))
 
-unless-small : (k : Checked) (x : Answer) → PlacedTo 0 k → Small x → Small (unlessShort k x)
+unless-small : (k : Checked) (x : Answer) → PlacedTo 0 k → Small x → Small (unlessUnfit k x)
 unless-small Checked.Accepted x p h = h
 unless-small (Checked.Refuse f) x p h = omega arith
 
@@ -132,7 +132,7 @@ result-number : (sense : Sense) (qs : List Resource) (out : List ℕ) (a : Answe
 result-number sense qs out (Done n) us = refl
 result-number sense qs out (Refused f) us = refl
 
-unless-number : (k : Checked) (sense : Sense) (qs : List Resource) (out : List ℕ) (x : Result) → unlessRefusedFile k out (resultFile sense qs out x) .answer ≡ answerNumber (unlessShort k (x .answer))
+unless-number : (k : Checked) (sense : Sense) (qs : List Resource) (out : List ℕ) (x : Result) → unlessRefusedFile k out (resultFile sense qs out x) .answer ≡ answerNumber (unlessUnfit k (x .answer))
 unless-number Checked.Accepted sense qs out x = result-number sense qs out (x .answer) (x .tasks)
 unless-number (Checked.Refuse f) sense qs out x = refl
 

@@ -1,0 +1,16 @@
+-- The resource step, by the call on a file: said here so that a wrong call is refused at once, with no search.
+use borrow.Author.Needs.{needs}
+use Rattle.gristwaltz.proofs.gristwaltz_resource_step.Statement.{statement}
+use Rattle.gristwaltz.proofs.gristwaltz_resource_step.Tie as tie
+
+call-file-requires : tie.Need-call-file-requires
+call-file-requires c κs = search needs
+
+same-length : tie.Need-same-length
+same-length c = search needs
+
+returns : tie.Need-returns
+returns c = c .before .before .call-file .ensures
+
+pub gristwaltz-resource-step-spec : {M : Type 1} → statement M
+gristwaltz-resource-step-spec = tie.close (tie.spec call-file-requires same-length returns)
