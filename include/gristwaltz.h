@@ -1,4 +1,5 @@
-/* Gristwaltz: narrow a service plan until nothing more follows, or say that no plan exists. Link libgristwaltz.a (`rt staticlib gristwaltz`).
+/* Gristwaltz: narrow a service plan until nothing more follows, or say that no plan exists. Link libgristwaltz.a (`rt staticlib gristwaltz`),
+ * which asks for `memset` and no other function.
  *
  * A plan is a plan file in memory (at most 9,382 bytes). Every call takes any bytes, keeps no state, uses no heap and may run on any number
  * of threads at once. `file` and `out` point to as many bytes as their lengths say, are not NULL, and do not overlap.
