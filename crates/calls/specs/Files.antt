@@ -51,7 +51,7 @@ abbrev pub unlessRefusedFile : Checked → List ℕ → FileResult → FileResul
 unlessRefusedFile Checked.Accepted out x = x
 unlessRefusedFile (Checked.Refuse f) out x = refusedFile f out
 
--- 12, then 10: the plan's file is the file that was read (the law `read-written` of crate file)
+-- 12, then 10: the plan's file is the file that was read (the law `read-written` of crate format)
 unfoldable pub lentFits : Call → List Resource → List ℕ → List ℕ → Checked
 lentFits c qs file out =
     orElse (refuseIf (not (placedIn (length qs) c)) NoSuchResource) (refuseIf (ltb (length out) (length file)) BufferShort)
