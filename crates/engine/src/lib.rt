@@ -13,8 +13,7 @@ ghost use Rattle.passes.specs.Facing.{resourcesFacing, tasksFacing};
 ghost use Rattle.step.specs.Asks.{Roomy};
 ghost use Rattle.passes.specs.Answers.{settledOf};
 ghost use Rattle.engine.specs.Answers.{leftOf, resultOf};
-ghost use Rattle.engine.specs.Calls.{everyPlace, placedIn, callOf, workOf};
-use passes::Passed;
+ghost use Rattle.engine.specs.Calls.{placedIn, callOf, workOf};
 use passes::Settling;
 use plan::Answer;
 use plan::Refusal;
@@ -100,16 +99,6 @@ fn left(ok: bool) -> Settling
     }
 }
 
-fn all_due() -> Passed
-    ensures { λ r. ⌜ (r .ok ≡ true) × (r .mask ≡ everyPlace) ⌝ }
-{
-    Passed {
-        ok: true,
-        changed: false,
-        mask: 0xffff_ffff_ffff_ffff,
-    }
-}
-
 // What is asked for, on tasks that passed the checks and face the steps.
 fn work(
     c: Call,
@@ -131,7 +120,7 @@ fn work(
             left(o.ok)
         }
         Call::Step(p) => {
-            let o = passes::step_due(sense, q, s, p, all_due(), keys, spare, ss);
+            let o = passes::resource_step(sense, q, s, p, keys, spare, ss);
             left(o.ok)
         }
         Call::Pass => {

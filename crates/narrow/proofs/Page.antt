@@ -21,7 +21,7 @@ use Rattle.plan.specs.Sets.{has, only, without}
 use Rattle.rules.specs.Step.{possible, sure, shortfall, needed, barred, shut, keepsHeight, narrowed, listedDays}
 use Rattle.rules.proofs.Days.{In}
 use Rattle.rules.proofs.Live.{Live}
-use Rattle.rules.proofs.Quiet.{narrowed-quiet}
+use Rattle.rules.proofs.Quiet.{quiet-unbarred, narrowed-quiet}
 use Rattle.stretches.specs.declared.Stretch.{Stretch}
 use Rattle.stretches.specs.Tells.{Tells}
 use Rattle.searches.specs.declared.Days.{Days}
@@ -112,11 +112,9 @@ still-page r limit ts t f e n =
     sym
     (narrowed-quiet r limit ts (listedDays ts) t
     (λ i.
-    record {
-      need = false-in (needed r limit ts t i) (λ h. n i (needed-is r limit ts t i h .possible));
-      bar = false-in (barred r limit ts t i) (λ h. n i (barred-is r limit ts t i h .possible));
-      height = λ s. absurd (n i (sure-possible r i t f s));
-    })
+    quiet-unbarred r limit ts t i (false-in (needed r limit ts t i) (λ h. n i (needed-is r limit ts t i h .possible)))
+    (false-in (barred r limit ts t i) (λ h. n i (barred-is r limit ts t i h .possible)))
+    (λ s. absurd (n i (sure-possible r i t f s))))
     (live-fit t f e))
 
 -- ---- a task that nothing can change

@@ -109,7 +109,7 @@ module _ (r : ℕ) (limit : ℤ → ℤ) (ts : List Task) (t : Task) (fit : Fit 
     none-page m e =
         sym
         (rules.narrowed-quiet r limit ts (listedDays ts) t
-        (λ i. let q = all-quiet i in record { need = q .unneeded; bar = q .unbarred; height = q .unlifted })
+        (λ i. let q = all-quiet i in rules.quiet-unbarred r limit ts t i (q .unneeded) (q .unbarred) (q .unlifted))
         (live-fit t fit e))
       where
         all-quiet : (i : ℤ) → Quiet r limit ts t i

@@ -50,7 +50,7 @@ or-none true b h = clash true refl h
 or-none false b h = (refl, h)
 
 -- a place that is in neither of two sets
-union-none : (a b k : ℕ) → has (union a b) k ≡ false → (has a k ≡ false) × (has b k ≡ false)
+pub union-none : (a b k : ℕ) → has (union a b) k ≡ false → (has a k ≡ false) × (has b k ≡ false)
 union-none a b k h = or-none (has a k) (has b k) (sym (union-has a b k) ∙ h)
 
 -- ---- a change seen from a place that no changed task could stand on

@@ -33,8 +33,8 @@ use Rattle.rules.proofs.Checks.Accepts.{no-tasks, more-tasks}
 use Rattle.rows.specs.Changes.{outcomeOf}
 use Rattle.rows.specs.Fits.{Bounded}
 use Rattle.rows.proofs.Fits.{bounded-out}
-use Rattle.passes.specs.Mask.{Idle, Noted}
-use Rattle.passes.proofs.Mask.{has-ones}
+use Rattle.passes.specs.Mask.{livePlaces, Idle, Noted}
+use Rattle.passes.proofs.Resting.{live-idle}
 
 -- n passes before those that s counts
 abbrev pub plusPasses : ℕ → Settled → Settled
@@ -129,13 +129,12 @@ pub record Settles (qs : List Resource) (ts us : List Task) (mask passes : ℕ) 
   pub room : passes + rooms us ≤ rooms ts
 
 module _ (qs : List Resource) (ts : List Task) where
-  -- at first every resource may change something
-  pub settles-start : check qs ts ≡ Accepted → Settles qs ts ts (2 ^ 64 - 1) 0
+  -- at first the resources of lively tasks may change something
+  pub settles-start : check qs ts ≡ Accepted → Settles qs ts ts (livePlaces 0 ts) 0
   settles-start a =
-      let l = check-resources qs ts a in
       record {
         accepted = a;
-        idle = λ r h c. clash (has (2 ^ 64 - 1) r) (has-ones 64 r (omega arith)) c;
+        idle = live-idle qs ts a;
         rest = sym (plus-none (settle AtLeast qs ts));
         room = omega arith;
       }

@@ -5,7 +5,7 @@ ghost use mathlib.Core.Bool.{true, false, not};
 ghost use Prim.Native.Nat.{_<_};
 ghost use lib.Dec.{eqb};
 ghost use lib.ListN.{length, getD};
-ghost use Rattle.integers.specs.Tests.{or};
+ghost use Rattle.integers.specs.Tests.{if, or};
 ghost use Rattle.plan.specs.Powers.{powerFits};
 ghost use Rattle.plan.specs.declared.Sense.the-variants.{AtLeast};
 ghost use Rattle.rules.specs.Allowed.{limitOn};
@@ -14,13 +14,16 @@ ghost use Rattle.rules.specs.Settle.{stepsFrom, pass, settle};
 ghost use Rattle.rules.specs.Calls.{check};
 ghost use Rattle.rules.specs.Calls.Checked.{Accepted};
 ghost use Rattle.rows.specs.View.{tasksOf, resourcesOf, noResource};
-ghost use Rattle.rows.specs.Changes.{outcomeOf};
+ghost use Rattle.rows.specs.Changes.{outcomeOf, union, touchedBy};
 ghost use Rattle.passes.specs.Facing.{resourcesFacing};
 ghost use Rattle.step.specs.Asks.{Roomy};
-ghost use Rattle.passes.specs.Mask.{Idle, Noted};
+ghost use Rattle.step.specs.Least.{lively};
+ghost use Rattle.passes.specs.Mask.{livePlaces, Idle, Noted};
 ghost use Rattle.passes.specs.Answers.{settledOf};
 use plan::Power;
 use plan::Sense;
+use plan::Task;
+use rows::Stepped;
 
 // What a pass has done so far: a plan is left, something changed, and which resources may still change something.
 pub struct Passed {
@@ -55,8 +58,27 @@ fn some_touched(changed: bool, touched: u64) -> bool
     touched != 0
 }
 
+// The step of the resource at a place.
+pub fn resource_step(
+    sense: Sense,
+    q: &[[i64; 2]],
+    s: &mut [[i64; 9]],
+    r: usize,
+    keys: &mut [u64],
+    spare: &mut [u64],
+    ss: &mut [[i64; 4]],
+) -> Stepped
+    requires { ⌜ (r < length (now q)) × (check (resourcesFacing sense (resourcesOf (now q))) (tasksOf (now s)) ≡ Accepted) ⌝ }
+    requires { ⌜ Roomy (length (now s)) (length (now keys)) (length (now spare)) (length (now ss)) ⌝ }
+    ensures outcome { λ o. ⌜ outcomeOf (o .ok) (tasksOf (now (s .exit))) ≡ atLeastStep r (limitOn (getD (resourcesFacing sense (resourcesOf (now (q .entry)))) r noResource)) (tasksOf (now (s .entry))) ⌝ }
+    ensures touched { λ o. ⌜ (o .ok ≡ true → o .touched ≡ touchedBy (tasksOf (now (s .entry))) (tasksOf (now (s .exit)))) ⌝ }
+{
+    let limit = limit_facing(sense, q, r);
+    step::step(s, r as u64, limit, keys, spare, ss)
+}
+
 // one resource's step, if its bit says that it may change something
-pub fn step_due(
+fn step_due(
     sense: Sense,
     q: &[[i64; 2]],
     s: &mut [[i64; 9]],
@@ -75,7 +97,7 @@ pub fn step_due(
     let k = r as u64;
     let mask = p.mask;
     if plan::has_resource(mask, k) {
-        let o = step::step(s, k, limit_facing(sense, q, r), keys, spare, ss);
+        let o = resource_step(sense, q, s, r, keys, spare, ss);
         Passed {
             ok: o.ok,
             changed: some_touched(p.changed, o.touched),
@@ -142,6 +164,29 @@ pub fn pass_rows(
     steps_rows(sense, q, s, first, keys, spare, ss)
 }
 
+fn with_lively(mask: u64, t: Task) -> u64
+    ensures { λ m. ⌜ m ≡ if (lively t) (union mask (t .set)) mask ⌝ }
+{
+    if step::is_lively(t) {
+        mask | t.set
+    } else {
+        mask
+    }
+}
+
+// The resources of the lively tasks: at first no other can change anything.
+fn live_places(s: &[[i64; 9]]) -> u64
+    ensures { λ m. ⌜ m ≡ livePlaces 0 (tasksOf (now (s .entry))) ⌝ }
+{
+    let mut mask: u64 = 0;
+    let mut i: usize = 0;
+    while i < s.len() {
+        mask = with_lively(mask, rows::task_at(s, i));
+        i += 1;
+    }
+    mask
+}
+
 // Passes until one changes nothing.
 pub fn settle_rows(
     sense: Sense,
@@ -155,7 +200,7 @@ pub fn settle_rows(
     requires { ⌜ Roomy (length (now s)) (length (now keys)) (length (now spare)) (length (now ss)) ⌝ }
     ensures { λ o. ⌜ settledOf o (tasksOf (now (s .exit))) ≡ settle AtLeast (resourcesFacing sense (resourcesOf (now (q .entry)))) (tasksOf (now (s .entry))) ⌝ }
 {
-    let mut mask: u64 = 0xffff_ffff_ffff_ffff;
+    let mut mask: u64 = live_places(s);
     let mut passes: u64 = 0;
     loop {
         let p = pass_rows(sense, q, s, mask, keys, spare, ss);

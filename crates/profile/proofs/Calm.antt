@@ -15,20 +15,15 @@ use Rattle.events.specs.Events.{barOf, liftOf}
 use Rattle.events.proofs.Fit.{Fit}
 use Rattle.profile.proofs.OnDay.{sure-possible, hope-positive, hope-sure, hope-none, counts-in}
 
-module _ (r : ℕ) (limit : ℤ → ℤ) (ts : List Task) {t : Task} (fit : Fit t) (k : In t ts) (i : ℤ)
-    (calm : possible r i t ≡ true → (barOf t ≤ℤ slackOn r limit ts i) × (liftOf t ≤ℤ tightOn r limit ts i)) where
-  -- where the day counts, the slack is as large as the task's lift
-  calm-tight : possible r i t ≡ true → counts r ts i ≡ true → liftOf t ≤ℤ slackOn r limit ts i
-  unfolding tightOn
-  calm-tight p c = rw c at (calm p .1)
-
-  unbarred : barred r limit ts t i ≡ false
+-- the day's slack is as large as the task's bar: it is not barred
+module _ (r : ℕ) (limit : ℤ → ℤ) (ts : List Task) {t : Task} (fit : Fit t) (i : ℤ) where
+  pub calm-unbarred : (possible r i t ≡ true → barOf t ≤ℤ slackOn r limit ts i) → barred r limit ts t i ≡ false
   unfolding barred others slackOn barOf
-  unbarred =
+  calm-unbarred calm =
       by-cases (possible r i t)
       (λ p.
       let h = t .height .high .0 in
-      let l = calm p .0 in
+      let l = calm p in
       rw (
         p,
         ltZ-out ((total r ts i -ℤ hope r i t) +ℤ h) (limit i)
@@ -41,9 +36,16 @@ module _ (r : ℕ) (limit : ℤ → ℤ) (ts : List Task) {t : Task} (fit : Fit 
       ))
       (λ p. rw p)
 
-  unneeded : needed r limit ts t i ≡ false
+-- where a task is sure, the slack is as large as the task's lift: it is not needed, and its height is enough
+module _ (r : ℕ) (limit : ℤ → ℤ) (ts : List Task) {t : Task} (fit : Fit t) (k : In t ts) (i : ℤ)
+    (calm : possible r i t ≡ true → liftOf t ≤ℤ tightOn r limit ts i) where
+  calm-tight : possible r i t ≡ true → counts r ts i ≡ true → liftOf t ≤ℤ slackOn r limit ts i
+  unfolding tightOn
+  calm-tight p c = rw c at (calm p)
+
+  pub calm-unneeded : needed r limit ts t i ≡ false
   unfolding needed others slackOn liftOf
-  unneeded =
+  calm-unneeded =
       by-cases (counts r ts i)
       (λ c.
       by-cases (possible r i t)
@@ -59,9 +61,9 @@ module _ (r : ℕ) (limit : ℤ → ℤ) (ts : List Task) {t : Task} (fit : Fit 
       (λ p. rw (c, p)))
       (λ c. rw c)
 
-  unlifted : sure r i t ≡ true → (limit i -ℤ others r ts t i) ≤ℤ t .height .low .0
+  pub calm-unlifted : sure r i t ≡ true → (limit i -ℤ others r ts t i) ≤ℤ t .height .low .0
   unfolding others slackOn liftOf
-  unlifted e =
+  calm-unlifted e =
       let h = t .height .high .0 in
       let m = t .height .low .0 in
       let p = sure-possible r i t fit e in
@@ -69,5 +71,13 @@ module _ (r : ℕ) (limit : ℤ → ℤ) (ts : List Task) {t : Task} (fit : Fit 
       let g = hope-sure r i t fit e in
       omega (z, maxz h (h -ℤ m), -z h m, -z (total r ts i) (hope r i t), -z (total r ts i) (limit i), -z (limit i) (total r ts i -ℤ hope r i t))
 
+-- no rule touches the task there
+module _ (r : ℕ) (limit : ℤ → ℤ) (ts : List Task) {t : Task} (fit : Fit t) (k : In t ts) (i : ℤ)
+    (calm : possible r i t ≡ true → (barOf t ≤ℤ slackOn r limit ts i) × (liftOf t ≤ℤ tightOn r limit ts i)) where
   pub calm-quiet : Quiet r limit ts t i
-  calm-quiet = record { unneeded = unneeded; unbarred = unbarred; unlifted = unlifted }
+  calm-quiet =
+      record {
+        unneeded = calm-unneeded r limit ts fit k i (λ p. calm p .1);
+        unbarred = calm-unbarred r limit ts fit i (λ p. calm p .0);
+        unlifted = calm-unlifted r limit ts fit k i (λ p. calm p .1);
+      }

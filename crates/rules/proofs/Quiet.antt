@@ -1,5 +1,5 @@
 -- A task that no rule touches on any day stays as it is: its set and ranges come out as they entered.
-use mathlib.Core.Path.{_≡_}
+use mathlib.Core.Path.{_≡_, refl}
 use Prim.Native.Nat.{ℕ}
 use mathlib.Core.List.{List}
 use mathlib.Core.Bool.{Bool, true, false}
@@ -9,7 +9,7 @@ use Rattle.integers.specs.Tests.{and, implies, all}
 use Rattle.integers.specs.Hull.{Range, left}
 use Rattle.integers.specs.Hull.Left.{Some}
 use Rattle.integers.proofs.Z.{z, leZ-in}
-use Rattle.integers.proofs.Tests.{clash, and-first, and-second, and-in, implies-in, all-in, any-none, false-in}
+use Rattle.integers.proofs.Tests.{clash, and-in, implies-in, all-in, any-none, false-in}
 use Rattle.integers.proofs.Hull.{left-is}
 use Rattle.plan.specs.declared.Task.{Task}
 use Rattle.plan.specs.declared.Narrowed.the-variants.{Kept}
@@ -25,17 +25,26 @@ use Rattle.rules.proofs.Possible.{no-need, no-bar}
 pub left-all : (p : ℤ → Bool) (s : Range) → s .low ≤ℤ s .high → p (s .low) ≡ true → p (s .high) ≡ true → left p s ≡ Some s
 left-all p s h a b = left-is p s (s .low) (s .high) (omega z) (omega z) a b (λ u w e. (w .least, w .most))
 
--- no rule of r touches t on day i: no need, no bar, and a height that is enough already
+-- no rule of r touches t on day i: no need, no bar that shuts values out or takes r away, and a height that is enough already
 pub record Quiet (r : ℕ) (limit : ℤ → ℤ) (ts : List Task) (t : Task) (i : ℤ) : Type 0 where
   pub need : needed r limit ts t i ≡ false
-  pub bar : barred r limit ts t i ≡ false
+  pub bar : shut r limit ts t i ≡ false
+  pub leave : and (barred r limit ts t i) (running r i t) ≡ false
   pub height : sure r i t ≡ true → (limit i -ℤ others r ts t i) ≤ℤ t .height .low .0
+
+-- a day on which the task is not barred at all
+pub quiet-unbarred : (r : ℕ) (limit : ℤ → ℤ) (ts : List Task) (t : Task) (i : ℤ) → needed r limit ts t i ≡ false → barred r limit ts t i ≡ false
+    → (sure r i t ≡ true → (limit i -ℤ others r ts t i) ≤ℤ t .height .low .0) → Quiet r limit ts t i
+unfolding shut
+quiet-unbarred r limit ts t i n b h = record { need = n; bar = rw b (and-no (only (t .set) r)); leave = rw b; height = h }
+  where
+    and-no : (x : Bool) → and x false ≡ false
+    and-no true = refl
+    and-no false = refl
 
 module _ (r : ℕ) (limit : ℤ → ℤ) (ts : List Task) (days : List ℤ) (t : Task) (quiet : (i : ℤ) → Quiet r limit ts t i) where
   not-shut : (i : ℤ) → shut r limit ts t i ≡ true → ⊥
-  unfolding shut
-  not-shut i s =
-      clash (barred r limit ts t i) (and-second (only (t .set) r) (barred r limit ts t i) s) (quiet i .bar)
+  not-shut i s = clash (shut r limit ts t i) s (quiet i .bar)
 
   -- needs and bars that never speak keep every value
   never : (p q : ℤ → Bool) → all (λ i. and (implies (needed r limit ts t i) (p i)) (implies (shut r limit ts t i) (q i))) days ≡ true
@@ -70,7 +79,7 @@ module _ (r : ℕ) (limit : ℤ → ℤ) (ts : List Task) (days : List ℤ) (t :
       rw (
         any-none (needed r limit ts t) days (λ i n. clash (needed r limit ts t i) n (quiet i .need)),
         any-none (λ i. and (barred r limit ts t i) (running r i t)) days
-            (λ i b. clash (barred r limit ts t i) (and-first (barred r limit ts t i) (running r i t) b) (quiet i .bar)),
+            (λ i b. clash (and (barred r limit ts t i) (running r i t)) b (quiet i .leave)),
       )
 
   pub narrowed-quiet : Live t → narrowed r limit ts days t ≡ Kept t
@@ -100,11 +109,8 @@ module _ (r : ℕ) (limit : ℤ → ℤ) (ts : List Task) (t : Task) (away : has
 
   pub quiet-away : (i : ℤ) → Quiet r limit ts t i
   quiet-away i =
-      record {
-        need = no-need r i t limit ts (possible-away i);
-        bar = no-bar r i t limit ts (possible-away i);
-        height = λ s. clash (sure r i t) s (sure-away i);
-      }
+      quiet-unbarred r limit ts t i (no-need r i t limit ts (possible-away i)) (no-bar r i t limit ts (possible-away i))
+      (λ s. clash (sure r i t) s (sure-away i))
 
   -- so the step of r keeps it as it is
   pub narrowed-away : (days : List ℤ) → Live t → narrowed r limit ts days t ≡ Kept t

@@ -6,12 +6,12 @@ use Prim.Native.Nat.{ℕ, zero, suc, _+_, _≤_, _<_}
 use native.Mathlib.Nat.{not-suc-le-zero, le-of-suc-le-suc}
 use native.Mathlib.Omega.{arith}
 use lib.Dec.{eqb}
-use lib.IntN.{ℤ}
+use lib.IntN.{ℤ, _-ℤ_}
 use lib.ListN.{length, getD}
 use lib.Signed.{_≤ℤ_, ltZ}
-use Rattle.integers.specs.Tests.{if, or, any}
+use Rattle.integers.specs.Tests.{if, and, or, any}
 use Rattle.integers.proofs.Z.{z}
-use Rattle.integers.proofs.Tests.{clash, by-cases, if-case, false-in, or-first, or-left}
+use Rattle.integers.proofs.Tests.{clash, by-cases, if-case, false-in, and-in, or-first, or-left}
 use Rattle.plan.specs.declared.Power.{Power}
 use Rattle.plan.specs.declared.Task.{Task}
 use Rattle.plan.specs.declared.Narrowed.{Narrowed}
@@ -20,27 +20,29 @@ use Rattle.plan.specs.Sets.{has}
 use Rattle.plan.proofs.Sets.{eqb-true}
 use Rattle.rules.specs.Balance.{Outcome, each}
 use Rattle.rules.specs.Balance.Outcome.{NoPlan, Plan}
-use Rattle.rules.specs.Step.{shortfall, narrowed, listedDays, atLeastStep}
+use Rattle.rules.specs.Step.{possible, sure, others, needed, barred, shortfall, narrowed, listedDays, atLeastStep}
 use Rattle.rules.specs.Calls.{rangesFit}
-use Rattle.rules.proofs.Quiet.{narrowed-quiet}
+use Rattle.rules.proofs.Quiet.{Quiet, quiet-unbarred, narrowed-quiet}
 use Rattle.rules.proofs.Walk.{eachLeft, each-start, each-same, each-end}
 use Rattle.rows.specs.View.{noTask}
 use Rattle.rows.specs.Fits.{AllFit}
 use Rattle.rows.proofs.Fits.{bounded-in}
 use Rattle.stretches.specs.declared.Stretch.{Stretch}
 use Rattle.stretches.specs.View.{noStretch, onDay}
-use Rattle.stretches.specs.Tells.{Quiet, Tells}
+use Rattle.stretches.specs.Tells.{slackOn, tightOn, Tells}
+use Rattle.stretches.specs.Tells as tells
 use Rattle.events.specs.Events.{barOf, liftOf}
 use Rattle.events.proofs.Fit.{fit-is}
 use Rattle.events.proofs.Each.{any-at, in-at}
-use Rattle.profile.proofs.Calm.{calm-quiet}
+use Rattle.profile.proofs.Calm.{calm-unneeded, calm-unbarred, calm-unlifted}
 use Rattle.narrow.specs.Ready.{Among}
 use Rattle.narrow.specs.Ready.Among.{head, tail}
 use Rattle.narrow.proofs.Others.{fit-out, possible-out}
 use Rattle.narrow.proofs.Page.{still-page, live-fit}
 use Rattle.step.specs.declared.Least.{Least}
 use Rattle.step.specs.Asks.{Told}
-use Rattle.step.specs.Least.{lowerOf, Under, asksMore}
+use Rattle.step.specs.Least.{lowerOf, Under, lively, asksMore}
+use Rattle.step.proofs.Lively.{dull-quiet}
 
 among-at : (k : ℕ) (ts : List Task) → k < length ts → Among (getD ts k noTask) ts
 among-at k [] h = absurd (not-suc-le-zero h)
@@ -86,29 +88,56 @@ module _ (r : ℕ) (limit : ℤ → ℤ) (ss : List Stretch) (ts : List Task) (f
   fits : rangesFit task ≡ true
   fits = bounded-in task (fit k inside .ranges)
 
-  quiet-on : barOf task ≤ℤ l .slack .0 → liftOf task ≤ℤ l .tight .0 → (i : ℤ) → Quiet r limit ts task i
-  quiet-on a b i =
+  -- on a day of a stretch by what the least leaves, on any other by what the stretches tell
+  on-day : (i : ℤ) (P : Type 0) → ((possible r i task ≡ true → (l .slack .0 ≤ℤ slackOn r limit ts i) × (l .tight .0 ≤ℤ tightOn r limit ts i)) → P)
+      → (tells.Quiet r limit ts task i → P) → P
+  on-day i P f g =
       by-cases (any (onDay i) ss)
       (λ e.
       let o = any-at (onDay i) noStretch ss e in
       let x = told .tells k inside .exact (o .0) (o .1) in
-      let u = under .slack (o .0) (o .1) in
-      let v = under .tight (o .0) (o .1) in
       let s = x .slack i (o .2) in
       let t = x .tight i (o .2) in
-      calm-quiet r limit ts (fit-is task fits) (in-at noTask ts k inside) i (λ p. (rw (← s) (omega (z, a, u)), rw (← t) (omega (z, b, v)))))
-      (λ e. told .tells k inside .quiet i e)
+      f (λ p. (rw (← s) (under .slack (o .0) (o .1)), rw (← t) (under .tight (o .0) (o .1)))))
+      (λ e. g (told .tells k inside .quiet i e))
+
+  unneeded-on : liftOf task ≤ℤ l .tight .0 → (i : ℤ) → needed r limit ts task i ≡ false
+  unneeded-on b i =
+      on-day i (needed r limit ts task i ≡ false)
+      (λ h. calm-unneeded r limit ts (fit-is task fits) (in-at noTask ts k inside) i (λ p. let v = h p .1 in omega (z, b, v)))
+      (λ q. q .unneeded)
+
+  unlifted-on : liftOf task ≤ℤ l .tight .0 → (i : ℤ) → sure r i task ≡ true → (limit i -ℤ others r ts task i) ≤ℤ task .height .low .0
+  unlifted-on b i =
+      on-day i (sure r i task ≡ true → (limit i -ℤ others r ts task i) ≤ℤ task .height .low .0)
+      (λ h. calm-unlifted r limit ts (fit-is task fits) (in-at noTask ts k inside) i (λ p. let v = h p .1 in omega (z, b, v)))
+      (λ q. q .unlifted)
+
+  unbarred-on : barOf task ≤ℤ l .slack .0 → (i : ℤ) → barred r limit ts task i ≡ false
+  unbarred-on a i =
+      on-day i (barred r limit ts task i ≡ false)
+      (λ h. calm-unbarred r limit ts (fit-is task fits) i (λ p. let v = h p .0 in omega (z, a, v)))
+      (λ q. q .unbarred)
+
+  -- one that is not lively asks only that it is not needed
+  quiet-on : liftOf task ≤ℤ l .tight .0 → (lively task ≡ true → barOf task ≤ℤ l .slack .0) → (i : ℤ) → Quiet r limit ts task i
+  quiet-on b a i =
+      by-cases (lively task)
+      (λ e. quiet-unbarred r limit ts task i (unneeded-on b i) (unbarred-on (a e) i) (unlifted-on b i))
+      (λ e. dull-quiet task e r limit ts i (unneeded-on b i))
 
   pub calm-kept : asksMore r task l ≡ false → narrowed r limit ts (listedDays ts) task ≡ Kept task
   unfolding asksMore
   calm-kept e =
       by-cases (has (task .set) r)
       (λ h.
-      let n : or (ltZ (l .slack .0) (barOf task)) (ltZ (l .tight .0) (liftOf task)) ≡ false = rw h at e in
-      let a : ltZ (l .slack .0) (barOf task) ≡ false = false-in (ltZ (l .slack .0) (barOf task)) (λ w. clash (or (ltZ (l .slack .0) (barOf task)) (ltZ (l .tight .0) (liftOf task))) (or-first (ltZ (l .slack .0) (barOf task)) (ltZ (l .tight .0) (liftOf task)) w) n) in
-      let b : ltZ (l .tight .0) (liftOf task) ≡ false = sym (or-left (ltZ (l .slack .0) (barOf task)) (ltZ (l .tight .0) (liftOf task)) a) ∙ n in
+      let lift = ltZ (l .tight .0) (liftOf task) in
+      let bar = ltZ (l .slack .0) (barOf task) in
+      let n : or lift (and bar (lively task)) ≡ false = rw h at e in
+      let a : lift ≡ false = false-in lift (λ w. clash (or lift (and bar (lively task))) (or-first lift (and bar (lively task)) w) n) in
+      let b : and bar (lively task) ≡ false = sym (or-left lift (and bar (lively task)) a) ∙ n in
       narrowed-quiet r limit ts (listedDays ts) task
-      (λ i. let q = quiet-on (omega (z, a)) (omega (z, b)) i in record { need = q .unneeded; bar = q .unbarred; height = q .unlifted })
+      (quiet-on (omega (z, a)) (λ v. let w : bar ≡ false = false-in bar (λ q. clash (and bar (lively task)) (and-in bar (lively task) q v) b) in omega (z, w)))
       (live-fit task (fit-out task fits) (not-empty (fit k inside .some))))
       (λ h. away-kept r ts fit k inside limit h)
 
@@ -134,7 +163,7 @@ none-left r limit ts fit tells =
     stays k l =
         let t = getD ts k noTask in
         narrowed-quiet r limit ts (listedDays ts) t
-        (λ i. let q = tells k l .quiet i refl in record { need = q .unneeded; bar = q .unbarred; height = q .unlifted })
+        (λ i. let q = tells k l .quiet i refl in quiet-unbarred r limit ts t i (q .unneeded) (q .unbarred) (q .unlifted))
         (live-fit t (fit-out t (bounded-in t (fit k l .ranges))) (not-empty (fit k l .some)))
 
 -- with no day short, the step takes each task by itself

@@ -1,7 +1,9 @@
 -- The least that all stretches leave, and whether a task asks for more.
 use mathlib.Core.Bool.{Bool}
 use mathlib.Core.List.{List}
-use Prim.Native.Nat.{ℕ, _<_}
+use Prim.Native.Nat.{ℕ, _-_, _<_}
+use lib.Bits.{bitAnd}
+use lib.Dec.{eqb}
 use lib.ListN.{length, getD}
 use lib.Signed.{_≤ℤ_, ltZ}
 use Rattle.integers.specs.Tests.{if, and, or}
@@ -24,6 +26,14 @@ pub record Under (l : Least) (ss : List Stretch) : Type 0 where
   pub slack : (k : ℕ) → k < length ss → l .slack .0 ≤ℤ getD ss k noStretch .slack .0
   pub tight : (k : ℕ) → k < length ss → l .tight .0 ≤ℤ getD ss k noStretch .tight .0
 
--- the task may stand on r, and is barred, needed or raised somewhere only if some stretch leaves less than it asks
+-- a set of one resource, or of none: its lowest bit is its only one
+unfoldable pub single : ℕ → Bool
+single s = eqb (bitAnd s (s - 1)) 0
+
+-- a task that can be sure, or that a bar can touch: "origin high <= i < end low" on some day, or one resource only
+unfoldable pub lively : Task → Bool
+lively t = or (ltZ (t .origin .high .0) (t .end .low .0)) (single (t .set))
+
+-- the task may stand on r, and is needed, raised or barred somewhere only if some stretch leaves less than it asks
 unfoldable pub asksMore : ℕ → Task → Least → Bool
-asksMore r t l = and (has (t .set) r) (or (ltZ (l .slack .0) (barOf t)) (ltZ (l .tight .0) (liftOf t)))
+asksMore r t l = and (has (t .set) r) (or (ltZ (l .tight .0) (liftOf t)) (and (ltZ (l .slack .0) (barOf t)) (lively t)))

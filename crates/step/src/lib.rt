@@ -13,7 +13,7 @@ ghost use Rattle.rows.specs.Fits.{AllFit};
 ghost use Rattle.stretches.specs.View.{stretchesOf};
 ghost use Rattle.rules.specs.Calls.{rangesFit};
 ghost use Rattle.step.specs.Asks.{Asks, Roomy, Told};
-ghost use Rattle.step.specs.Least.{lowerOf, lowered, Under, asksMore};
+ghost use Rattle.step.specs.Least.{lowerOf, lowered, Under, single, lively, asksMore};
 use plan::Narrowed;
 use plan::Power;
 use plan::Task;
@@ -57,6 +57,27 @@ fn least_of(ss: &[[i64; 4]]) -> Least
     l
 }
 
+// At most one bit: the lowest is the only one.
+fn is_single(set: u64) -> bool
+    ensures { λ b. ⌜ b ≡ single set ⌝ }
+{
+    if set == 0 {
+        return true;
+    }
+    set & (set - 1) == 0
+}
+
+// Whether the task can be sure, or be touched by a bar: it has a day on which it is under way wherever it starts, or one resource only.
+pub fn is_lively(t: Task) -> bool
+    ensures { λ b. ⌜ b ≡ lively t ⌝ }
+{
+    let high = t.origin.high;
+    if high.before(t.end.low) {
+        return true;
+    }
+    is_single(t.set)
+}
+
 // Whether the task may stand on r and some stretch could touch it.
 fn asks_more(t: Task, r: u64, l: Least) -> bool
     requires { ⌜ (r < 64) × (rangesFit t ≡ true) ⌝ }
@@ -65,10 +86,13 @@ fn asks_more(t: Task, r: u64, l: Least) -> bool
     let slack = l.slack;
     let tight = l.tight;
     if plan::has_resource(t.set, r) {
-        if slack.below(events::bar_of(t)) {
+        if tight.below(events::lift_of(t)) {
             return true;
         }
-        return tight.below(events::lift_of(t));
+        if slack.below(events::bar_of(t)) {
+            return is_lively(t);
+        }
+        return false;
     }
     false
 }

@@ -1,9 +1,9 @@
 -- Each call by its own function: what it leaves is what the page works out at least.
 use native.Mathlib.Omega.{arith}
-use mathlib.Core.Path.{_≡_, refl, sym, ap, _∙_, subst}
+use mathlib.Core.Path.{_≡_, sym, ap, _∙_}
 use mathlib.Core.Bool.{true}
 use mathlib.Core.List.{List}
-use Prim.Native.Nat.{ℕ, _<_}
+use Prim.Native.Nat.{ℕ}
 use lib.Dec.{ltb}
 use lib.ListN.{length, getD}
 use borrow.Author.Tests.{ltb-true}
@@ -20,7 +20,6 @@ use Rattle.rows.proofs.Fits.{accepts}
 use Rattle.engine.specs.declared.Call.{Call}
 use Rattle.passes.specs.declared.Settling.{Settling}
 use Rattle.passes.specs.Facing.{resourcesFacing}
-use Rattle.passes.specs.Mask.{Idle}
 use Rattle.passes.specs.Answers.{settledOf}
 use Rattle.engine.specs.Answers.{leftOf}
 use Rattle.engine.specs.Calls.{placedIn, workOf}
@@ -52,18 +51,12 @@ left-requires c κs = search needs
 enum-known-c : tie.Need-enum-known-c
 enum-known-c c = search needs
 
-all-due-requires : tie.Need-all-due-requires
-all-due-requires c κs = search needs
-
-step-due-requires : tie.Need-step-due-requires
-step-due-requires c κs =
-    let b = c .before .before .before .before .before .before .before .before .before .before in
-    let p = c .before .before .before .before .before .before .c .given .0 .0 in
-    let all = c .before .before .before .all-due .ensures in
-    let h : ltb p (length (b .args .q .now)) ≡ true = ap (placedIn (length (b .args .q .now))) (sym (c .before .before .before .before .before .before .c .given .1)) ∙ b .pre .0 .1 in (
-      (ltb-true p (length (b .args .q .now)) h, all .0, b .pre .0 .0),
-      (subst (λ (m : ℕ). Idle m (qs b) (ts b)) (sym (all .1)) (all-idle (qs b) (ts b) (b .pre .0 .0)), b .pre .1),
-    )
+resource-step-requires : tie.Need-resource-step-requires
+resource-step-requires c κs =
+    let b = c .before .before .before .before .before .before .before .before .before in
+    let p = c .before .before .before .before .before .c .given .0 .0 in
+    let h : ltb p (length (b .args .q .now)) ≡ true = ap (placedIn (length (b .args .q .now))) (sym (c .before .before .before .before .before .c .given .1)) ∙ b .pre .0 .1 in
+    ((ltb-true p (length (b .args .q .now)) h, b .pre .0 .0), b .pre .1)
 
 left-requires-2 : tie.Need-left-requires-2
 left-requires-2 c κs = search needs
@@ -115,12 +108,12 @@ same-length-5 c = search needs
 
 returns-3 : tie.Need-returns-3
 returns-3 c =
-    let b = c .before .before .before .before .before .before .before .before .before .before .before .before .before .before .before .before .before .before in
+    let b = c .before .before .before .before .before .before .before .before .before .before .before .before .before .before .before .before .before in
     let d = c .before .before .before .before .before .before .before in
-    let us = tasksOf (d .step-due .last .1 .1 .0) in
-    let p = c .before .before .before .before .before .before .before .before .before .before .before .before .before .before .c .given .0 .0 in
-    ap (λ (x : Settling). settledOf x us) (c .left2 .ensures) ∙ left-settled (d .step-due .result .ok) us (atLeastStep p (limitOn (getD (qs b) p noResource)) (ts b)) (d .step-due .ensures .0)
-    ∙ ap (λ (x : Call). workOf x (qs b) (ts b)) (sym (c .before .before .before .before .before .before .before .before .before .before .before .before .before .before .c .given .1))
+    let us = tasksOf (d .resource-step .last .1 .1 .0) in
+    let p = c .before .before .before .before .before .before .before .before .before .before .before .before .before .c .given .0 .0 in
+    ap (λ (x : Settling). settledOf x us) (c .left2 .ensures) ∙ left-settled (d .resource-step .result .ok) us (atLeastStep p (limitOn (getD (qs b) p noResource)) (ts b)) (d .resource-step .ensures .0)
+    ∙ ap (λ (x : Call). workOf x (qs b) (ts b)) (sym (c .before .before .before .before .before .before .before .before .before .before .before .before .before .c .given .1))
 
 same-length-6 : tie.Need-same-length-6
 same-length-6 c = search needs
@@ -168,8 +161,7 @@ work-spec =
     balance-requires
     left-requires
     enum-known-c
-    all-due-requires
-    step-due-requires
+    resource-step-requires
     left-requires-2
     enum-told-3
     pass-rows-requires

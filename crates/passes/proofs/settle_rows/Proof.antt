@@ -36,16 +36,19 @@ Inv-loop sense q s₀ keys₀ spare₀ ss₀ mask₀ passes₀ s keys spare ss m
 abbrev μ-loop : tie.MeasureT-loop
 μ-loop sense q s₀ keys₀ spare₀ ss₀ mask₀ passes₀ s keys spare ss mask passes = rooms (tasksOf s)
 
+live-places-requires : tie.Need-live-places-requires Inv-loop μ-loop
+live-places-requires c κs = search needs
+
 loop-holds : tie.Need-loop-holds Inv-loop μ-loop
 loop-holds c =
-    let b = c .before .before in
-    (refl, refl, refl, refl, settles-start (facing (b .args .sense) (b .args .q .now)) (tasksOf (b .args .s .now)) (b .pre .0))
+    let b = c .before .before .before .before in
+    (refl, refl, refl, refl, rw (c .live-places .ensures) (settles-start (facing (b .args .sense) (b .args .q .now)) (tasksOf (b .args .s .now)) (b .pre .0)))
 
 -- src/lib.rt:194:13
 pass-rows-requires : tie.Need-pass-rows-requires Inv-loop μ-loop
 pass-rows-requires c κs =
     let l = c .before .before .before .before in
-    let b = l .before .before .before in
+    let b = l .before .before .before .before .before in
     let g = l .loop .inv .4 in (
       g .accepted,
       (
@@ -75,7 +78,7 @@ returns : tie.Need-returns Inv-loop μ-loop
 returns c =
     let d = c .before .before .before .before .before .before .before .before in
     let l = c .before .before .before .before .before .before .before .before .before .before .before .before .before in
-    let b = c .before .before .before .before .before .before .before .before .before .before .before .before .before .before .before .before in
+    let b = c .before .before .before .before .before .before .before .before .before .before .before .before .before .before .before .before .before .before in
     let g = l .loop .inv .4 in
     let qs = facing (b .args .sense) (b .args .q .now) in
     let ts = tasksOf (b .args .s .now) in
@@ -88,7 +91,7 @@ returns c =
 add-passes : tie.Need-add-passes Inv-loop μ-loop
 add-passes c =
     let l = c .before .before .before .before .before .before .before .before .before .before .before .before .before in
-    let b = c .before .before .before .before .before .before .before .before .before .before .before .before .before .before .before .before in
+    let b = c .before .before .before .before .before .before .before .before .before .before .before .before .before .before .before .before .before .before in
     let m = rooms-most (facing (b .args .sense) (b .args .q .now)) (tasksOf (b .args .s .now)) (b .pre .0) in
     omega (arith, l .loop .inv .4 .room)
 
@@ -113,7 +116,7 @@ returns-2 : tie.Need-returns-2 Inv-loop μ-loop
 returns-2 c =
     let d = c .before .before .before .before .before .before .before .before .before .before in
     let l = c .before .before .before .before .before .before .before .before .before .before .before .before .before .before .before in
-    let b = c .before .before .before .before .before .before .before .before .before .before .before .before .before .before .before .before .before .before in
+    let b = c .before .before .before .before .before .before .before .before .before .before .before .before .before .before .before .before .before .before .before .before in
     let g = l .loop .inv .4 in
     let qs = facing (b .args .sense) (b .args .q .now) in
     let ts = tasksOf (b .args .s .now) in
@@ -128,7 +131,7 @@ loop-less : tie.Need-loop-less Inv-loop μ-loop
 loop-less c =
     let d = c .before .before .before .before .before .before .before .before .before .before in
     let l = c .before .before .before .before .before .before .before .before .before .before .before .before .before .before .before in
-    let b = c .before .before .before .before .before .before .before .before .before .before .before .before .before .before .before .before .before .before in
+    let b = c .before .before .before .before .before .before .before .before .before .before .before .before .before .before .before .before .before .before .before .before in
     let g = l .loop .inv .4 in
     let qs = facing (b .args .sense) (b .args .q .now) in
     let ts = tasksOf (b .args .s .now) in
@@ -147,7 +150,7 @@ loop-again c = (
   omega arith,
   let d = c .before .before .before .before .before .before .before .before .before .before in
       let l = c .before .before .before .before .before .before .before .before .before .before .before .before .before .before .before in
-      let b = c .before .before .before .before .before .before .before .before .before .before .before .before .before .before .before .before .before .before in
+      let b = c .before .before .before .before .before .before .before .before .before .before .before .before .before .before .before .before .before .before .before .before in
       let g = l .loop .inv .4 in
       let qs = facing (b .args .sense) (b .args .q .now) in
       let ts = tasksOf (b .args .s .now) in
@@ -164,6 +167,7 @@ settle-rows-spec =
     (tie.spec
     Inv-loop
     μ-loop
+    live-places-requires
     loop-holds
     pass-rows-requires
     same-length

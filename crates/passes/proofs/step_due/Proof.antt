@@ -1,30 +1,25 @@
 -- A resource's step is taken where its bit is set; where it is clear, the step would change nothing.
 use borrow.Author.Needs.{needs}
 use native.Mathlib.Omega.{arith}
-use mathlib.Core.Path.{_≡_, refl, sym, ap, _∙_, subst}
-use mathlib.Core.Bool.{Bool, true, false, not}
+use mathlib.Core.Path.{_≡_, sym, ap, _∙_}
+use mathlib.Core.Bool.{Bool, true, false}
 use mathlib.Core.List.{List}
-use Prim.Native.Nat.{ℕ, _≤_, _<_, _^_}
-use native.Mathlib.Nat.{pow-le-pow-right}
+use Prim.Native.Nat.{ℕ, _<_}
 use lib.ListN.{length, getD}
-use Rattle.plan.specs.declared.Power.{Power}
 use Rattle.plan.specs.declared.Resource.{Resource}
 use Rattle.plan.specs.declared.Task.{Task}
-use Rattle.plan.specs.Powers.{powerFits}
 use Rattle.plan.specs.Sets.{has}
 use Rattle.rules.specs.Allowed.{limitOn}
 use Rattle.rules.specs.Step.{atLeastStep}
-use Rattle.rules.specs.Balance.{Outcome}
 use Rattle.rules.specs.Balance.Outcome.{Plan}
-use Rattle.rows.specs.View.{tasksOf, resourcesOf, noTask, noResource}
+use Rattle.rows.specs.View.{tasksOf, resourcesOf, noResource}
 use Rattle.rows.specs.Changes.{outcomeOf, union}
-use Rattle.rows.specs.Fits.{TaskFits}
-use Rattle.rows.proofs.View.{length-tasks, length-resources}
+use Rattle.rows.proofs.View.{length-resources}
 use Rattle.rows.proofs.Fits.{Accepts, accepts}
 use Rattle.passes.specs.Facing.{resourcesFacing}
 use Rattle.passes.specs.Mask.{Noted}
 use Rattle.passes.proofs.Facing.{length-facing}
-use Rattle.passes.proofs.Mask.{step-keeps, step-noted, unchanged-noted, limited, fits-wide}
+use Rattle.passes.proofs.Mask.{step-keeps, step-noted, unchanged-noted}
 use Rattle.passes.proofs.step_due.Statement.{statement}
 use Rattle.passes.proofs.step_due.Tie as tie
 
@@ -48,35 +43,14 @@ small c = let h = inside c in let l = known c .most in omega arith
 has-resource-requires : tie.Need-has-resource-requires
 has-resource-requires c κs = small (c .before .before)
 
-limit-facing-requires : tie.Need-limit-facing-requires
-limit-facing-requires c κs =
-    let b = c .before .before .before .before .before in
-    (b .pre .0 .0, known b .limits noResource (b .args .r) (inside b))
-
-limit-fits : (c : tie.After-limit-facing) → powerFits (c .limit-facing .result) ≡ true
-limit-fits c =
-    let b = c .before .before .before .before .before .before in
-    ap powerFits (c .limit-facing .ensures) ∙ known b .limits noResource (b .args .r) (inside b)
-
-step-requires : tie.Need-step-requires
-step-requires c κs =
-    let b = c .before .before .before .before .before .before .before .before .before in
-    let a = b .args in
-    let k = known b in (
-      record {
-        place = small b;
-        few = k .few;
-        fit = λ j l. fits-wide (length (qs b)) (getD (ts b) j noTask) (omega (arith, k .most)) (k .tasks noTask j l);
-        limited = limit-fits (c .before .before .before);
-      },
-      b .pre .1 .1,
-    )
+resource-step-requires : tie.Need-resource-step-requires
+resource-step-requires c κs = search needs
 
 some-touched-requires : tie.Need-some-touched-requires
 some-touched-requires c κs = search needs
 
 without-resource-requires : tie.Need-without-resource-requires
-without-resource-requires c κs = small (c .before .before .before .before .before .before .before .before .before .before .before .before .before .before .before .before .before)
+without-resource-requires c κs = small (c .before .before .before .before .before .before .before .before .before .before .before .before .before .before .before .before)
 
 same-length : tie.Need-same-length
 same-length c = search needs
@@ -94,17 +68,15 @@ returns : tie.Need-returns
 unfolding union
 returns c =
     let d = c .before .before .before .before .before .before .before .before .before in
-    let l = d .before .before .before .before in
-    let b = c .before .before .before .before .before .before .before .before .before .before .before .before .before .before .before .before .before .before .before in
+    let b = c .before .before .before .before .before .before .before .before .before .before .before .before .before .before .before .before .before .before in
     let r = b .args .r in
-    let us = tasksOf (d .step .last .0) in
-    let o : outcomeOf (d .step .result .ok) us ≡ atLeastStep r (limitOn (getD (qs b) r noResource)) (ts b) =
-    d .step .ensures .0 ∙ limited r (l .limit-facing .result) (getD (qs b) r noResource) (ts b) (l .limit-facing .ensures) in (
+    let us = tasksOf (d .resource-step .last .1 .1 .0) in
+    let o = d .resource-step .ensures .0 in (
       o,
       λ ok.
           let plan : atLeastStep r (limitOn (getD (qs b) r noResource)) (ts b) ≡ Plan us = sym o ∙ ap (λ (x : Bool). outcomeOf x us) ok in
           let k = step-keeps (qs b) (ts b) us (b .pre .0 .2) r (inside b) plan in
-          rw (c .before .before .some-touched .ensures, c .before .without-resource .ensures, d .step .ensures .1 ok)
+          rw (c .before .before .some-touched .ensures, c .before .without-resource .ensures, d .resource-step .ensures .1 ok)
           (step-noted (qs b) (ts b) us (b .pre .0 .2) k (b .args .p .mask) (b .args .p .changed) r plan (b .pre .1 .0)),
     )
 
@@ -121,8 +93,7 @@ step-due-spec =
     tie.close
     (tie.spec
     has-resource-requires
-    limit-facing-requires
-    step-requires
+    resource-step-requires
     some-touched-requires
     without-resource-requires
     same-length

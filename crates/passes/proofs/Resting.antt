@@ -1,0 +1,89 @@
+-- Before the first pass: a resource on which no lively task may stand. No task is sure there, so no rule speaks, and its step changes nothing.
+use mathlib.Core.Path.{_≡_, refl}
+use mathlib.Core.Bool.{Bool, true, false}
+use mathlib.Core.List.{List, [], _∷_}
+use Prim.Native.Nat.{ℕ, _+_, _≤_, _<_}
+use native.Mathlib.Numerals.{add-one}
+use lib.IntN.{ℤ}
+use lib.ListN.{length, getD, drop, drop-of-length-le}
+use lib.Seq.{drop-cons}
+use Rattle.integers.specs.Tests.{if, any}
+use Rattle.integers.proofs.Tests.{clash, by-cases, any-none}
+use Rattle.plan.specs.declared.Task.{Task}
+use Rattle.plan.specs.declared.Resource.{Resource}
+use Rattle.plan.specs.declared.Narrowed.the-variants.{Kept}
+use Rattle.plan.specs.Sets.{has}
+use Rattle.rules.specs.Balance.{each}
+use Rattle.rules.specs.Balance.Outcome.{Plan}
+use Rattle.rules.specs.Step.{sure, counts, shortfall, needed, narrowed, listedDays, atLeastStep}
+use Rattle.rules.specs.Allowed.{limitOn}
+use Rattle.rules.specs.Calls.{check}
+use Rattle.rules.specs.Calls.Checked.{Accepted}
+use Rattle.rules.proofs.Live.{Live, Lives}
+use Rattle.rules.proofs.Live.Lives.{no-lives, more-lives}
+use Rattle.rules.proofs.Quiet.{narrowed-quiet, sure-away, narrowed-away}
+use Rattle.rules.proofs.Checks.{check-live}
+use Rattle.rows.specs.View.{noResource}
+use Rattle.rows.specs.Changes.{union}
+use Rattle.step.specs.Least.{lively}
+use Rattle.step.proofs.Lively.{dull-sure, dull-quiet}
+use Rattle.passes.specs.Mask.{Idle, livePlaces}
+use Rattle.passes.proofs.Mask.{union-none}
+
+-- each task is lively only where it may not stand on r
+pub data Resting (r : ℕ) : List Task → Type 0 where
+  no-tasks : Resting r []
+  more-tasks : {t : Task} {ts : List Task} → (lively t ≡ true → has (t .set) r ≡ false) → Resting r ts → Resting r (t ∷ ts)
+
+resting-from : (r m : ℕ) (ts : List Task) → has (livePlaces m ts) r ≡ false → (has m r ≡ false) × Resting r ts
+unfolding livePlaces
+resting-from r m [] h = (h, no-tasks)
+resting-from r m (t ∷ ts) h =
+    let e = resting-from r (if (lively t) (union m (t .set)) m) ts h in
+    by-cases (lively t)
+    (λ q. let n = union-none m (t .set) r (rw q at (e .0)) in (n .0, more-tasks (λ v. n .1) (e .1)))
+    (λ q. (rw q at (e .0), more-tasks (λ v. clash (lively t) v q) (e .1)))
+
+module _ (r : ℕ) (limit : ℤ → ℤ) where
+  -- none is sure
+  resting-counts : (i : ℤ) {ts : List Task} → Resting r ts → counts r ts i ≡ false
+  unfolding counts any
+  resting-counts i no-tasks = refl
+  resting-counts i (more-tasks {t} {ts} h k) =
+      rw (by-cases {P = sure r i t ≡ false} (lively t) (λ e. sure-away r limit ts t (h e) i) (λ e. dull-sure t e r i)) (resting-counts i k)
+
+  module _ (all : List Task) (rest : Resting r all) where
+    resting-enough : any (shortfall r limit all) (listedDays all) ≡ false
+    unfolding shortfall
+    resting-enough = any-none (shortfall r limit all) (listedDays all) (λ i e. clash (shortfall r limit all i) e (rw (resting-counts i rest)))
+
+    resting-unneeded : (t : Task) (i : ℤ) → needed r limit all t i ≡ false
+    unfolding needed
+    resting-unneeded t i = rw (resting-counts i rest)
+
+    resting-kept : (t : Task) → (lively t ≡ true → has (t .set) r ≡ false) → Live t → narrowed r limit all (listedDays all) t ≡ Kept t
+    resting-kept t h l =
+        by-cases (lively t) (λ e. narrowed-away r limit all t (h e) (listedDays all) l)
+        (λ e. narrowed-quiet r limit all (listedDays all) t (λ i. dull-quiet t e r limit all i (resting-unneeded t i)) l)
+
+    resting-each : {ts : List Task} → Resting r ts → Lives ts → each (narrowed r limit all (listedDays all)) ts ≡ Plan ts
+    unfolding each
+    resting-each no-tasks no-lives = refl
+    resting-each (more-tasks {t} {ts} h k) (more-lives l m) = rw (resting-kept t h l, resting-each k m)
+
+    resting-step : Lives all → atLeastStep r limit all ≡ Plan all
+    unfolding atLeastStep
+    resting-step l = rw resting-enough (resting-each rest l)
+
+pub live-idle : (qs : List Resource) (ts : List Task) → check qs ts ≡ Accepted → Idle (livePlaces 0 ts) qs ts
+live-idle qs ts a r h c = resting-step r (limitOn (getD qs r noResource)) ts (resting-from r 0 ts c .1) (check-live qs ts a)
+
+-- ---- the places, one task after another
+pub places-more : (d : Task) (m i : ℕ) (ts : List Task) → i < length ts
+    → livePlaces (if (lively (getD ts i d)) (union m (getD ts i d .set)) m) (drop (i + 1) ts) ≡ livePlaces m (drop i ts)
+unfolding livePlaces
+places-more d m i ts h = rw (add-one, drop-cons ts i d h)
+
+pub places-end : (m i : ℕ) (ts : List Task) → length ts ≤ i → livePlaces m (drop i ts) ≡ m
+unfolding livePlaces
+places-end m i ts h = rw (drop-of-length-le ts h)
