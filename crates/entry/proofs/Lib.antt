@@ -1,2 +1,3 @@
 -- How far the checks have come.
 pub mod Checks
+pub mod Rising

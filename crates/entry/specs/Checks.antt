@@ -1,8 +1,11 @@
 -- What the code answers, in the page's words; and the parts of the page's checks that one function each carries out.
+use mathlib.Core.Bool.{Bool, true}
 use mathlib.Core.List.{List, [], _∷_}
 use Prim.Native.Nat.{ℕ, zero, suc}
 use lib.IntN.{ℤ}
 use lib.ListN.{length, getD}
+use lib.Signed.{ltZ}
+use Rattle.integers.specs.Tests.{and}
 use Rattle.plan.specs.declared.Task.{Task}
 use Rattle.plan.specs.declared.Resource.{Resource}
 use Rattle.rules.specs.Calls.{Checked, orElse, repeats, limits, tasksFit}
@@ -18,6 +21,15 @@ checkedOf (Refused f) = Checked.Refuse f
 unfoldable pub seen : ℕ → List Resource → List ℤ
 seen zero qs = []
 seen (suc k) qs = (getD qs k noResource) .id ∷ seen k qs
+
+abbrev pub belowId : Resource → Resource → Bool
+belowId q r = ltZ (q .id) (r .id)
+
+-- each identifier is larger than the one before
+unfoldable pub rises : List Resource → Bool
+rises [] = true
+rises (q ∷ []) = true
+rises (q ∷ (r ∷ qs)) = and (belowId q r) (rises (r ∷ qs))
 
 -- 3 to 6
 unfoldable pub contents : List Resource → List Task → Checked

@@ -10,7 +10,7 @@ ghost use Rattle.plan.specs.declared.Resource.{Resource};
 ghost use Rattle.plan.specs.Days.{dayLow, dayHigh, durationLow, durationHigh, spanFits};
 ghost use Rattle.rules.specs.Calls.{repeats, limits, rangesFit, setFits, tasksFit, check, mostTasks, mostResources};
 ghost use Rattle.rows.specs.View.{tasksOf, resourcesOf, noResource};
-ghost use Rattle.entry.specs.Checks.{checkedOf, contents, seen};
+ghost use Rattle.entry.specs.Checks.{checkedOf, contents, belowId, rises, seen};
 use plan::Day;
 use plan::Refusal;
 use plan::Resource;
@@ -46,9 +46,40 @@ fn repeats_earlier(q: &[[i64; 2]], k: usize) -> bool
     false
 }
 
+// In one run: each identifier is larger than the one before.
+fn below_id(a: Resource, b: Resource) -> bool
+    ensures { λ r. ⌜ r ≡ belowId a b ⌝ }
+{
+    a.id < b.id
+}
+
+fn identifiers_rise(q: &[[i64; 2]]) -> bool
+    ensures { λ r. ⌜ r ≡ rises (resourcesOf (now (q .entry))) ⌝ }
+{
+    if q.len() == 0 {
+        return true;
+    }
+    let mut last = rows::resource_at(q, 0);
+    let mut k: usize = 1;
+    while k < q.len() {
+        let next = rows::resource_at(q, k);
+        if below_id(last, next) {
+            last = next;
+            k += 1;
+        } else {
+            return false;
+        }
+    }
+    true
+}
+
+// Identifiers that rise repeat none: only where they do not is each compared with all before it.
 fn check_identifiers(q: &[[i64; 2]]) -> Entry
     ensures { λ r. ⌜ checkedOf r ≡ repeats 0 [] (resourcesOf (now (q .entry))) ⌝ }
 {
+    if identifiers_rise(q) {
+        return Entry::Accepted;
+    }
     let mut k: usize = 0;
     while k < q.len() {
         if repeats_earlier(q, k) {
