@@ -2,11 +2,16 @@
 // ranges as they entered.
 ghost use mathlib.Core.Path.{_≡_};
 ghost use mathlib.Core.Bool.{true};
-ghost use Rattle.plan.specs.declared.Narrowed.the-variants.{Kept};
+ghost use lib.IntN.{_+ℤ_};
+ghost use mir.Syntax.{w64};
+ghost use mir.Val.{SFits};
+ghost use Rattle.integers.specs.Whole.{eqZ};
 ghost use Rattle.rules.specs.Balance.{cuts, unlessEmpty, balanced, balance};
 ghost use Rattle.rows.specs.View.{tasksOf};
 ghost use Rattle.rows.specs.Fits.{Bounded, AllBounded};
 ghost use Rattle.rows.specs.Changes.{outcomeOf, touchedBy};
+ghost use Rattle.balance.specs.Exact.{exact};
+use plan::Day;
 use plan::Narrowed;
 use plan::Task;
 use plan::Value;
@@ -55,20 +60,25 @@ pub fn balance_task(t: Task) -> Narrowed
     unless_empty(cut_task(t))
 }
 
-// Nearly every task is balanced already: one whose ranges lie where they would be cut to stays, and need not be cut and compared.
-fn is_balanced(t: Task) -> bool
+// d is a and b together.
+fn is_sum(d: Day, a: Day, b: Day) -> bool
+    requires { ⌜ SFits w64 (a .0 +ℤ b .0) ⌝ }
+    ensures { λ r. ⌜ r ≡ eqZ (d .0) (a .0 +ℤ b .0) ⌝ }
+{
+    d.0 == a.0 + b.0
+}
+
+// Nearly every task is balanced already, in the plainest way: both ends of its end are the sums of the other two's. It stays, and need
+// not be cut and compared.
+fn is_exact(t: Task) -> bool
     requires { ⌜ Bounded t ⌝ }
-    ensures { λ r. ⌜ (r ≡ true → balanced t ≡ Kept t) ⌝ }
+    ensures { λ r. ⌜ r ≡ exact t ⌝ }
 {
     let o = t.origin;
     let d = t.duration;
     let e = t.end;
-    if o.fits(e.low.minus(d.high), e.high.minus(d.low)) {
-        if d.fits(e.low.minus(o.high), e.high.minus(o.low)) {
-            e.fits(o.low.plus(d.low), o.high.plus(d.high))
-        } else {
-            false
-        }
+    if is_sum(e.low, o.low, d.low) {
+        is_sum(e.high, o.high, d.high)
     } else {
         false
     }
@@ -84,7 +94,7 @@ pub fn balance(s: &mut [[i64; 9]]) -> Stepped
     let mut i: usize = 0;
     while i < s.len() {
         let t = rows::task_at(s, i);
-        if !is_balanced(t) {
+        if !is_exact(t) {
             match balance_task(t) {
                 Narrowed::Kept(u) => {
                     touched = rows::put_changed(s, i, u, touched);

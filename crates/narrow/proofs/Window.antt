@@ -8,7 +8,6 @@ use lib.Dec.{eqb}
 use lib.ListN.{length, take, drop, getD, length-take, length-drop}
 use lib.Seq.{getD-take, getD-drop}
 use lib.IntN.{ℤ}
-use lib.Signed.{_≤ℤ_}
 use Rattle.integers.specs.Tests.{any}
 use Rattle.integers.proofs.Z.{z}
 use Rattle.integers.proofs.Tests.{clash, by-cases, false-in}
@@ -19,9 +18,12 @@ use Rattle.rules.proofs.Quiet as rules
 use Rattle.stretches.specs.declared.Stretch.{Stretch}
 use Rattle.stretches.specs.View.{noStretch, onDay}
 use Rattle.stretches.specs.Tells.{Quiet, Exact, Uncut, Ordered, Tells}
+use Rattle.searches.specs.Searches.{Begun}
+use Rattle.searches.proofs.Halves.{begun-past}
 use Rattle.searches.proofs.Parts.{on-out}
 use Rattle.searches.proofs.Order.{ordered-rest}
 use Rattle.searches.proofs.Up.{below-cases}
+use Rattle.narrow.specs.Window.{Over, Ahead}
 use Rattle.narrow.proofs.Others.{Fit, possible-out, sure-possible, barred-is, needed-is}
 use Rattle.narrow.proofs.Told.{any-place, any-at}
 use Rattle.narrow.proofs.Page.{live-fit}
@@ -44,6 +46,26 @@ ordered-drop zero ss h = h
 ordered-drop (suc n) [] h = h
 ordered-drop (suc n) (s ∷ ss) h = ordered-drop n ss (ordered-rest s ss h)
 
+-- ---- the stretches before place a and from place b on
+module _ (ss : List Stretch) (d : ℤ) where
+  pub over-none : Over ss d 0
+  over-none = record { ended = λ k l. absurd (no k l) }
+    where
+      no : (k : ℕ) → k < 0 → ⊥
+      no k l = omega arith
+
+  pub ahead-all : (n : ℕ) → length ss ≤ n → Ahead ss d n
+  ahead-all n h = record { begins = λ k l m. absurd (none k l m) }
+    where
+      none : (k : ℕ) → n ≤ k → k < length ss → ⊥
+      none k l m = omega arith
+
+  pub over-begun : Ordered ss → (n : ℕ) → n ≤ length ss → Begun ss d n n → Over ss d (n - 1)
+  over-begun o n l b = record { ended = begun-past ss d o n l b }
+
+  pub ahead-begun : (n : ℕ) → Begun ss d n n → Ahead ss d n
+  ahead-begun n b = record { begins = b .after }
+
 -- ---- the stretches outside a .. b - 1 hold no possible day of the task
 module _ (r : ℕ) (limit : ℤ → ℤ) (ts : List Task) (t : Task) (fit : Fit t) where
   -- a day on which it is not possible is quiet
@@ -56,13 +78,12 @@ module _ (r : ℕ) (limit : ℤ → ℤ) (ts : List Task) (t : Task) (fit : Fit 
       }
 
   module _ (ss : List Stretch) (tells : Tells r limit ts t ss) (a b : ℕ)
-      (early : (k : ℕ) → k < a → k < length ss → (getD ss k noStretch) .to .0 ≤ℤ t .origin .low .0)
-      (late : (k : ℕ) → b ≤ k → k < length ss → t .end .high .0 ≤ℤ (getD ss k noStretch) .from .0) where
+      (over : Over ss (t .origin .low .0) a) (ahead : Ahead ss (t .end .high .0) b) where
     off : (k : ℕ) → k < length ss → ((k < a → ⊥) → (b ≤ k → ⊥) → ⊥) → (i : ℤ) → onDay i (getD ss k noStretch) ≡ true → possible r i t ≡ true → ⊥
     off k l n i o p =
         let x = on-out (getD ss k noStretch) i o in
         let y = possible-out r i t p in
-        n (λ m. let e = early k m l in omega z) (λ m. let e = late k m l in omega z)
+        n (λ m. let e = over .ended k m l in omega z) (λ m. let e = ahead .begins k m l in omega z)
 
     pub part-tells : a ≤ b → b ≤ length ss → Tells r limit ts t (take (b - a) (drop a ss))
     part-tells m n =

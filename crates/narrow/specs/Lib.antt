@@ -1,2 +1,3 @@
--- What is asked of a task, and what it is once every rule has been applied.
+-- What is asked of a task, which stretches it can't meet, and what it is once every rule has been applied.
 pub mod Ready
+pub mod Window

@@ -5,8 +5,9 @@
 ghost use mathlib.Core.Path.{_≡_};
 ghost use mathlib.Core.Bool.{Bool, true, false};
 ghost use mathlib.Core.List.{List};
-ghost use Prim.Native.Nat.{_-_, _<_};
+ghost use Prim.Native.Nat.{_-_, _≤_, _<_};
 ghost use lib.IntN.{ℤ};
+ghost use lib.ListN.{length};
 ghost use lib.Signed.{_<ℤ_};
 ghost use lib.Dec.{eqb};
 ghost use Rattle.integers.specs.Tests.{any};
@@ -15,9 +16,11 @@ ghost use Rattle.plan.specs.Sets.{has, only};
 ghost use Rattle.rules.specs.Calls.{rangesFit};
 ghost use Rattle.rules.specs.Step.{shortfall, listedDays, narrowed};
 ghost use Rattle.stretches.specs.View.{stretchesOf};
-ghost use Rattle.stretches.specs.Tells.{Tells};
+ghost use Rattle.stretches.specs.Tells.{Ordered, Tells};
 ghost use Rattle.searches.specs.Searches.{Needed, Between, Dated};
 ghost use Rattle.narrow.specs.Ready.{Ready, Among, Known, possibleDays, runningDays, under, reachOf, withNeeds, NeedsTold, Free, Lifted, Still, withoutHere, finished};
+ghost use Rattle.narrow.specs.Window.{Over, Ahead};
+use plan::Day;
 use plan::Narrowed;
 use plan::Power;
 use plan::PowerSpan;
@@ -276,16 +279,41 @@ fn but_last(n: usize) -> usize
     if 0 < n { n - 1 } else { 0 }
 }
 
+// Of fewer stretches than this all are taken: to search for those that a task can meet costs more than it saves.
+const WORTH_A_SEARCH: usize = 4;
+
+// A place before which every stretch is over by the day: that of the last that begins before it.
+fn first_met(ss: &[[i64; 4]], from: Day) -> usize
+    ensures { λ a. ⌜ (Ordered (stretchesOf (now (ss .entry))) → Over (stretchesOf (now (ss .entry))) (from .0) a) ⌝ }
+{
+    if ss.len() < WORTH_A_SEARCH {
+        0
+    } else {
+        but_last(searches::begun(ss, from))
+    }
+}
+
+// A place from which on every stretch begins on the day or later: that of the first that does.
+fn past_met(ss: &[[i64; 4]], to: Day) -> usize
+    ensures { λ b. ⌜ (b ≤ length (now (ss .entry))) × (Ordered (stretchesOf (now (ss .entry))) → Ahead (stretchesOf (now (ss .entry))) (to .0) b) ⌝ }
+{
+    let n = ss.len();
+    if n < WORTH_A_SEARCH {
+        n
+    } else {
+        searches::begun(ss, to)
+    }
+}
+
 // The stretches that can meet the task's possible days: from the last that begins before them to the last that begins on one of them.
+// Where they are few, all.
 fn narrow_window(ss: &[[i64; 4]], t: Task, r: u64) -> Narrowed
     requires { ⌜ Ready r t × (t .origin .low .0 <ℤ t .end .high .0) ⌝ }
     ensures { λ out. ⌜ ((limit : ℤ → ℤ) (ts : List Task) → Known r limit ts t (stretchesOf (now (ss .entry))) → has (t .set) r ≡ true → out ≡ narrowed r limit ts (listedDays ts) t) ⌝ }
 {
     let w = possible_days(t);
-    let from = w.from;
-    let to = w.to;
-    let a = but_last(searches::begun(ss, from));
-    let b = searches::begun(ss, to);
+    let a = first_met(ss, w.from);
+    let b = past_met(ss, w.to);
     if a < b {
         narrow_here(&ss[a..b], t, r)
     } else {

@@ -12,6 +12,7 @@ use Prim.Native.Nat.{_+_, _-_, _≤_, _<_}
 use Rattle.rules.specs.Balance.{balanced, balance}
 use Rattle.rows.proofs.View.{length-tasks}
 use Rattle.rows.proofs.Walk.{Walk, walk-start, walk-next, walk-kept, walk-same, walk-out, walk-end}
+use Rattle.balance.proofs.Stays.{exact-stays}
 use borrow.Author.Needs.{needs}
 use Rattle.balance.proofs.balance.Statement.{statement}
 use Rattle.balance.proofs.balance.Tie as tie
@@ -36,8 +37,8 @@ next-bounded c =
     let e = c .task-at .ensures ∙ walk-next balanced (tasksOf s) (b .loop .i) (tasksOf (b .loop .s)) (b .loop .touched) (b .loop .inv .2) in
     rw e (b .before .pre (b .loop .i) (omega (arith, length-tasks s)))
 
-is-balanced-requires : tie.Need-is-balanced-requires Inv-loop μ-loop
-is-balanced-requires c κs = next-bounded c
+is-exact-requires : tie.Need-is-exact-requires Inv-loop μ-loop
+is-exact-requires c κs = next-bounded c
 
 balance-task-requires : tie.Need-balance-task-requires Inv-loop μ-loop
 balance-task-requires c κs = next-bounded (c .before .before)
@@ -71,7 +72,7 @@ add-i c = search needs
 loop-less : tie.Need-loop-less Inv-loop μ-loop
 loop-less c = search needs
 
--- a task that was cut is put back; one that is balanced already stays, and so does the list
+-- a task that was cut is put back; one whose end is the exact sum stays, and so does the list
 loop-again : tie.Need-loop-again Inv-loop μ-loop
 loop-again c =
     let b = c .before .before .before .before .before in
@@ -90,9 +91,10 @@ loop-again c =
       rw (w .8, w .9, p .0, p .1) (walk-kept balanced ts (b .loop .i) us (b .loop .touched) (u .0 .0) l k (b .loop .inv .2)),
     ))
     (λ w.
-    let q = c .before .is-balanced in
+    let q = c .before .is-exact in
     let h : q .result ≡ true = by-cases (q .result) (λ e. e) (λ e. clash (not (q .result)) (ap not e) (w .0 .left)) in
-    let k : balanced (getD us (b .loop .i) noTask) ≡ Kept (getD us (b .loop .i) noTask) = rw t at (q .ensures h) in (
+    let k : balanced (getD us (b .loop .i) noTask) ≡ Kept (getD us (b .loop .i) noTask) =
+    rw t at (exact-stays (c .before .before .task-at .result) (next-bounded (c .before .before)) (sym (q .ensures) ∙ h)) in (
       le,
       ap length (w .1) ∙ b .loop .inv .1,
       rw (w .1, w .2) (walk-same balanced ts (b .loop .i) us (b .loop .touched) l k (b .loop .inv .2)),
@@ -119,7 +121,7 @@ balance-spec =
     μ-loop
     loop-holds
     task-at-requires
-    is-balanced-requires
+    is-exact-requires
     balance-task-requires
     enum-known-u
     put-changed-requires

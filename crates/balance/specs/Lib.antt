@@ -1,0 +1,2 @@
+-- Which tasks the balance step passes over.
+pub mod Exact

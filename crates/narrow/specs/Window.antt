@@ -1,0 +1,15 @@
+-- Stretches that no day of a task can meet: the first a, which are over by its first day, and those from place b on, which begin past
+-- its last. With 0 for a and the list's length for b none is left out, and nothing is claimed.
+use mathlib.Core.List.{List}
+use Prim.Native.Nat.{ℕ, _≤_, _<_}
+use lib.IntN.{ℤ}
+use lib.ListN.{length, getD}
+use lib.Signed.{_≤ℤ_}
+use Rattle.stretches.specs.declared.Stretch.{Stretch}
+use Rattle.stretches.specs.View.{noStretch}
+
+pub record Over (ss : List Stretch) (d : ℤ) (a : ℕ) : Type 0 where
+  pub ended : (k : ℕ) → k < a → k < length ss → (getD ss k noStretch) .to .0 ≤ℤ d
+
+pub record Ahead (ss : List Stretch) (d : ℤ) (b : ℕ) : Type 0 where
+  pub begins : (k : ℕ) → b ≤ k → k < length ss → d ≤ℤ (getD ss k noStretch) .from .0
