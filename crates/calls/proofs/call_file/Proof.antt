@@ -7,8 +7,11 @@ use borrow.Author.Needs.{needs}
 use Rattle.calls.proofs.call_file.Statement.{statement}
 use Rattle.calls.proofs.call_file.Tie as tie
 
-call-large-requires : tie.Need-call-large-requires
-call-large-requires c κs = search needs
+add-call-more : tie.Need-add-call-more
+add-call-more c = search needs
+
+call-more-requires : tie.Need-call-more-requires
+call-more-requires c κs = search needs
 
 same-length : tie.Need-same-length
 same-length c = search needs
@@ -39,9 +42,9 @@ same-length-3 c = search needs
 returns-3 : tie.Need-returns-3
 returns-3 c = search needs
 
-call-wide-requires : tie.Need-call-wide-requires
+call-more-requires-2 : tie.Need-call-more-requires-2
 unfolding headerIn
-call-wide-requires c κs = let e = ap (λ (x : Header). x .tasks) (c .before .before .before .before .header-of .ensures) in omega (arith, e, c .before .if4 .taken)
+call-more-requires-2 c κs = let e = ap (λ (x : Header). x .tasks) (c .before .before .before .header-of .ensures) in omega (arith, e)
 
 same-length-4 : tie.Need-same-length-4
 same-length-4 c = search needs
@@ -49,20 +52,12 @@ same-length-4 c = search needs
 returns-4 : tie.Need-returns-4
 returns-4 c = search needs
 
-call-large-requires-2 : tie.Need-call-large-requires-2
-call-large-requires-2 c κs = search needs
-
-same-length-5 : tie.Need-same-length-5
-same-length-5 c = search needs
-
-returns-5 : tie.Need-returns-5
-returns-5 c = search needs
-
 pub call-file-spec : {M : Type 1} → statement M
 call-file-spec =
     tie.close
     (tie.spec
-    call-large-requires
+    add-call-more
+    call-more-requires
     same-length
     returns
     header-of-requires
@@ -72,9 +67,6 @@ call-file-spec =
     call-middle-requires
     same-length-3
     returns-3
-    call-wide-requires
+    call-more-requires-2
     same-length-4
-    returns-4
-    call-large-requires-2
-    same-length-5
-    returns-5)
+    returns-4)
