@@ -41,7 +41,7 @@ use Rattle.narrow.proofs.Others.{fit-out, possible-out}
 use Rattle.narrow.proofs.Page.{still-page, live-fit}
 use Rattle.step.specs.declared.Least.{Least}
 use Rattle.step.specs.Asks.{Told}
-use Rattle.step.specs.Least.{lowerOf, Under, lively, asksMore}
+use Rattle.step.specs.Least.{lowerOf, Under, lively, canBeBarred, asksMore}
 use Rattle.step.proofs.Lively.{dull-quiet}
 
 among-at : (k : ℕ) (ts : List Task) → k < length ts → Among (getD ts k noTask) ts
@@ -126,18 +126,25 @@ module _ (r : ℕ) (limit : ℤ → ℤ) (ss : List Stretch) (ts : List Task) (f
       (λ e. quiet-unbarred r limit ts task i (unneeded-on b i) (unbarred-on (a e) i) (unlifted-on b i))
       (λ e. dull-quiet task e r limit ts i (unneeded-on b i))
 
+  unbarred-low : canBeBarred task (l .slack) ≡ false → lively task ≡ true → barOf task ≤ℤ l .slack .0
+  unfolding canBeBarred
+  unbarred-low a v =
+      let low = ltZ (l .slack .0) (barOf task) in
+      let w : low ≡ false = false-in low (λ q. clash (and low (lively task)) (and-in low (lively task) q v) a) in
+      omega (z, w)
+
   pub calm-kept : asksMore r task l ≡ false → narrowed r limit ts (listedDays ts) task ≡ Kept task
   unfolding asksMore
   calm-kept e =
       by-cases (has (task .set) r)
       (λ h.
+      let bar = canBeBarred task (l .slack) in
       let lift = ltZ (l .tight .0) (liftOf task) in
-      let bar = ltZ (l .slack .0) (barOf task) in
-      let n : or lift (and bar (lively task)) ≡ false = rw h at e in
-      let a : lift ≡ false = false-in lift (λ w. clash (or lift (and bar (lively task))) (or-first lift (and bar (lively task)) w) n) in
-      let b : and bar (lively task) ≡ false = sym (or-left lift (and bar (lively task)) a) ∙ n in
+      let n : or bar lift ≡ false = rw h at e in
+      let a : bar ≡ false = false-in bar (λ w. clash (or bar lift) (or-first bar lift w) n) in
+      let b : lift ≡ false = sym (or-left bar lift a) ∙ n in
       narrowed-quiet r limit ts (listedDays ts) task
-      (quiet-on (omega (z, a)) (λ v. let w : bar ≡ false = false-in bar (λ q. clash (and bar (lively task)) (and-in bar (lively task) q v) b) in omega (z, w)))
+      (quiet-on (omega (z, b)) (λ v. unbarred-low a v))
       (live-fit task (fit-out task fits) (not-empty (fit k inside .some))))
       (λ h. away-kept r ts fit k inside limit h)
 

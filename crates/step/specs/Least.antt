@@ -34,6 +34,10 @@ single s = eqb (bitAnd s (s - 1)) 0
 unfoldable pub lively : Task → Bool
 lively t = or (ltZ (t .origin .high .0) (t .end .low .0)) (single (t .set))
 
--- the task may stand on r, and is needed, raised or barred somewhere only if some stretch leaves less than it asks
+-- a bar could touch the task where the slack is so low
+unfoldable pub canBeBarred : Task → Power → Bool
+canBeBarred t slack = and (ltZ (slack .0) (barOf t)) (lively t)
+
+-- the task may stand on r, and is barred, needed or raised somewhere only if some stretch leaves less than it asks
 unfoldable pub asksMore : ℕ → Task → Least → Bool
-asksMore r t l = and (has (t .set) r) (or (ltZ (l .tight .0) (liftOf t)) (and (ltZ (l .slack .0) (barOf t)) (lively t)))
+asksMore r t l = and (has (t .set) r) (or (canBeBarred t (l .slack)) (ltZ (l .tight .0) (liftOf t)))

@@ -13,7 +13,7 @@ ghost use Rattle.rows.specs.Fits.{AllFit};
 ghost use Rattle.stretches.specs.View.{stretchesOf};
 ghost use Rattle.rules.specs.Calls.{rangesFit};
 ghost use Rattle.step.specs.Asks.{Asks, Roomy, Told};
-ghost use Rattle.step.specs.Least.{lowerOf, lowered, Under, single, lively, asksMore};
+ghost use Rattle.step.specs.Least.{lowerOf, lowered, Under, single, lively, canBeBarred, asksMore};
 use plan::Narrowed;
 use plan::Power;
 use plan::Task;
@@ -78,21 +78,28 @@ pub fn is_lively(t: Task) -> bool
     is_single(t.set)
 }
 
+// Whether a bar could touch the task where the slack is so low.
+fn can_be_barred(t: Task, slack: Power) -> bool
+    requires { ⌜ rangesFit t ≡ true ⌝ }
+    ensures { λ b. ⌜ b ≡ canBeBarred t slack ⌝ }
+{
+    if slack.below(events::bar_of(t)) {
+        return is_lively(t);
+    }
+    false
+}
+
 // Whether the task may stand on r and some stretch could touch it.
 fn asks_more(t: Task, r: u64, l: Least) -> bool
     requires { ⌜ (r < 64) × (rangesFit t ≡ true) ⌝ }
     ensures { λ b. ⌜ b ≡ asksMore r t l ⌝ }
 {
-    let slack = l.slack;
     let tight = l.tight;
     if plan::has_resource(t.set, r) {
-        if tight.below(events::lift_of(t)) {
+        if can_be_barred(t, l.slack) {
             return true;
         }
-        if slack.below(events::bar_of(t)) {
-            return is_lively(t);
-        }
-        return false;
+        return tight.below(events::lift_of(t));
     }
     false
 }
