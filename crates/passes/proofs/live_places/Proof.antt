@@ -35,9 +35,10 @@ loop-less c = search needs
 loop-again : tie.Need-loop-again Inv-loop μ-loop
 loop-again c =
     let l = c .before .before .before in
-    let ts = tasksOf (l .before .args .s .now) in
-    (omega arith,
-    rw (c .with-lively .ensures, c .before .task-at .ensures) (places-more noTask (l .loop .mask) (l .loop .i) ts (omega (arith, length-tasks (l .before .args .s .now)))) ∙ l .loop .inv .1)
+    let ts = tasksOf (l .before .args .s .now) in (
+      omega arith,
+      rw (c .with-lively .ensures, c .before .task-at .ensures) (places-more noTask (l .loop .mask) (l .loop .i) ts (omega (arith, length-tasks (l .before .args .s .now)))) ∙ l .loop .inv .1,
+    )
 
 returns : tie.Need-returns Inv-loop μ-loop
 returns c =
