@@ -78,7 +78,7 @@ fn work_rows(c: Call, sense: Sense, q: &[[i64; 2]], s: &mut [[i64; 9]]) -> Answe
     ensures { λ r. ⌜ resultOf r (tasksOf (now (s .entry))) (tasksOf (now (s .exit))) ≡ callOf c sense (resourcesOf (now (q .entry))) (tasksOf (now (s .entry))) ⌝ }
 {
     let mut keys = [0u64; 1024];
-    let mut spare = [0u64; 1024];
+    let mut spare = [0u64; 512];
     let none = [0i64; 4];
     let mut stretches = [none; 1025];
     engine::worked(c, sense, q, s, &mut keys, &mut spare, &mut stretches)

@@ -116,7 +116,7 @@ fn call_small(c: Call, file: &[u8], out: &mut [u8]) -> u64
     let mut resources = [resource; 16];
     let mut tasks = [task; 16];
     let mut keys = [0u64; 64];
-    let mut spare = [0u64; 64];
+    let mut spare = [0u64; 32];
     let mut stretches = [stretch; 65];
     call_lent(
         c,
@@ -141,7 +141,7 @@ fn call_middle(c: Call, file: &[u8], out: &mut [u8]) -> u64
     let mut resources = [resource; 16];
     let mut tasks = [task; 64];
     let mut keys = [0u64; 256];
-    let mut spare = [0u64; 256];
+    let mut spare = [0u64; 128];
     let mut stretches = [stretch; 257];
     call_lent(
         c,
@@ -166,7 +166,7 @@ fn call_wide(c: Call, file: &[u8], out: &mut [u8]) -> u64
     let mut resources = [resource; 16];
     let mut tasks = [task; 128];
     let mut keys = [0u64; 512];
-    let mut spare = [0u64; 512];
+    let mut spare = [0u64; 256];
     let mut stretches = [stretch; 513];
     call_lent(
         c,
@@ -190,7 +190,7 @@ fn call_large(c: Call, file: &[u8], out: &mut [u8]) -> u64
     let mut resources = [resource; 16];
     let mut tasks = [task; 256];
     let mut keys = [0u64; 1024];
-    let mut spare = [0u64; 1024];
+    let mut spare = [0u64; 512];
     let mut stretches = [stretch; 1025];
     call_lent(
         c,

@@ -16,14 +16,14 @@ use Rattle.stretches.specs.declared.Stretch.{Stretch}
 use Rattle.stretches.specs.View.{noStretch}
 use Rattle.stretches.specs.Tells.{big, Tells}
 
--- what is lent is long enough for every event, four a task, and every stretch, one more
+-- what is lent is long enough for every event, four a task, for half of them once more, and for every stretch, one more
 pub record Lent (tasks r : ℕ) (limit : ℤ) (keys spare stretches : ℕ) : Type 0 where
   pub tasks-few : tasks ≤ 256
   pub place : r < 64
   pub least : powerLow ≤ℤ limit
   pub most : limit ≤ℤ powerHigh
   pub keys-long : 4 * tasks ≤ keys
-  pub spare-long : 4 * tasks ≤ spare
+  pub spare-long : 2 * tasks ≤ spare
   pub stretches-long : 4 * tasks + 1 ≤ stretches
 
 -- days and powers small enough for the sums that are made of them

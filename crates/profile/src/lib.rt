@@ -2,7 +2,7 @@
 // over them writes a stretch up to each event's day with what has been added up by then. Only stretches that some rule could touch are kept.
 // Cost: n log n for n tasks; no day is visited, and no task for a stretch.
 ghost use mathlib.Core.Path.{_≡_};
-ghost use Prim.Native.Nat.{_≤_, _<_};
+ghost use Prim.Native.Nat.{_*_, _≤_, _<_};
 ghost use lib.IntN.{pos, _+ℤ_};
 ghost use lib.ListN.{length, take};
 ghost use lib.Signed.{_≤ℤ_, ltZ};
@@ -133,7 +133,7 @@ fn sweep_events(
     c: Common,
     s: &mut [[i64; 4]],
 ) -> usize
-    requires { ⌜ (n ≤ length (now keys)) × (n ≤ 1024) × (n ≤ length (now spare)) × (n < length (now s)) ⌝ }
+    requires { ⌜ (n ≤ length (now keys)) × (n ≤ 1024) × (n ≤ 2 * length (now spare)) × (n < length (now s)) ⌝ }
     requires { ⌜ (powerLow ≤ℤ start .0) × (start .0 ≤ℤ powerHigh) ⌝ }
     ensures { λ r. ⌜ Sweeps c (start .0) (take n (now (keys .entry))) (stretchesOf (now (s .exit))) r ⌝ }
 {

@@ -29,7 +29,7 @@ fn report_plan(sense: Sense, q: &[[i64; 2]], s: &mut [[i64; 9]], out: &mut [u8])
     ensures { λ r. ⌜ Put (now (out .entry)) 0 (resultText (settleCall sense (resourcesOf (now (q .entry))) (tasksOf (now (s .entry))))) mostText (now (out .exit)) r ⌝ }
 {
     let mut keys = [0u64; 1024];
-    let mut spare = [0u64; 1024];
+    let mut spare = [0u64; 512];
     let none = [0i64; 4];
     let mut stretches = [none; 1025];
     let answer = engine::worked(

@@ -22,10 +22,10 @@ pub record Asks (r : ℕ) (limit : Power) (ts : List Task) : Type 0 where
   pub fit : AllFit 64 ts
   pub limited : powerFits limit ≡ true
 
--- four events a task, and one stretch more than events
+-- four events a task, half of them once more, and one stretch more than events
 pub record Roomy (tasks k l m : ℕ) : Type 0 where
   pub keys : 4 * tasks ≤ k
-  pub spare : 4 * tasks ≤ l
+  pub spare : 2 * tasks ≤ l
   pub stretches : 4 * tasks + 1 ≤ m
 
 -- the stretches tell every task what it needs, and no day falls short
