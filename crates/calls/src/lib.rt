@@ -204,7 +204,7 @@ fn call_large(c: Call, file: &[u8], out: &mut [u8]) -> u64
     )
 }
 
-// Rows for n tasks, more than 64. It is called from two places, so that the compiler keeps these rows, 68 KB, out of the frame of every
+// Rows for n tasks, more than 64. It is called from two places, so that the compiler keeps these rows, 64 KB, out of the frame of every
 // smaller call: each call touches its whole frame, page by page.
 fn call_more(c: Call, n: usize, file: &[u8], out: &mut [u8]) -> u64
     requires { ⌜ min (headerIn (now file) .tasks) mostTasks ≤ n ⌝ }
