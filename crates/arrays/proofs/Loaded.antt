@@ -18,10 +18,6 @@ use Rattle.engine.proofs.Calls.{call-refused}
 use Rattle.arrays.specs.Runs.{Holds}
 
 module _ {A : Type 0} where
-  -- the first places of a list that is filled up with d are held
-  pub firsts-hold : (most : ℕ) (d : A) (xs : List A) → Holds most (take most (xs ++ replicate most d)) xs
-  firsts-hold most d xs h = take-take (length xs) most (xs ++ replicate most d) h ∙ take-append-seam xs (replicate most d)
-
   -- what is packed of an array is the list that it holds
   pub held : (most count k : ℕ) (array xs ys : List A) → k ≡ min count most → ys ≡ take k array → length xs ≡ count → Holds most array xs → length xs ≤ most → ys ≡ xs
   held most count k array xs ys e p l h few =

@@ -1,4 +1,3 @@
--- What the balance step's sums need, what it leaves, and why the tasks that it passes over stay.
+-- What the balance step's sums need, and why the tasks that it passes over stay.
 pub mod Fits
-pub mod Keeps
 pub mod Stays

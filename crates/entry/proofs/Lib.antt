@@ -1,3 +1,3 @@
--- How far the checks have come.
+-- How far the checks have come, and that identifiers that rise repeat none.
 pub mod Checks
 pub mod Rising

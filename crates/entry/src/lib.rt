@@ -46,13 +46,13 @@ fn repeats_earlier(q: &[[i64; 2]], k: usize) -> bool
     false
 }
 
-// In one run: each identifier is larger than the one before.
 fn below_id(a: Resource, b: Resource) -> bool
     ensures { λ r. ⌜ r ≡ belowId a b ⌝ }
 {
     a.id < b.id
 }
 
+// In one run: each identifier is larger than the one before.
 fn identifiers_rise(q: &[[i64; 2]]) -> bool
     ensures { λ r. ⌜ r ≡ rises (resourcesOf (now (q .entry))) ⌝ }
 {

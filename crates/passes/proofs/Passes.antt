@@ -10,11 +10,11 @@ use lib.Signed.{_≤ℤ_}
 use lib.ListN.{length}
 use Rattle.integers.specs.Tests.{if}
 use Rattle.integers.specs.Hull.{Range}
-use Rattle.integers.proofs.Tests.{by-cases, clash}
+use Rattle.integers.proofs.Tests.{by-cases}
 use Rattle.integers.proofs.Z.{z, +z, -z}
 use Rattle.plan.specs.Days.{daysOf}
 use Rattle.plan.specs.Powers.{powersOf}
-use Rattle.plan.specs.Sets.{has, size}
+use Rattle.plan.specs.Sets.{size}
 use Rattle.plan.specs.declared.Sense.the-variants.{AtLeast}
 use Rattle.plan.specs.declared.Task.{Task}
 use Rattle.plan.specs.declared.Resource.{Resource}
@@ -28,7 +28,7 @@ use Rattle.rules.specs.Calls.Checked.{Accepted}
 use Rattle.rules.proofs.Keeps.{Keeps, Sound}
 use Rattle.rules.proofs.Passes.{pass-sound}
 use Rattle.rules.proofs.Rooms.{keeps-less}
-use Rattle.rules.proofs.Checks.{Accepts, check-accepts, check-tasks, check-resources}
+use Rattle.rules.proofs.Checks.{Accepts, check-accepts, check-tasks}
 use Rattle.rules.proofs.Checks.Accepts.{no-tasks, more-tasks}
 use Rattle.rows.specs.Changes.{outcomeOf}
 use Rattle.rows.specs.Fits.{Bounded}

@@ -1,6 +1,7 @@
--- Before the first pass: a resource on which no lively task may stand. No task is sure there, so no rule speaks, and its step changes nothing.
+-- Before the first pass: a resource on which no lively task may stand. No task is sure there, so none falls short, is needed or raised. A bar
+-- shuts values out of no task there, because each has other resources, and takes none off, because none has a day on which it runs.
 use mathlib.Core.Path.{_≡_, refl}
-use mathlib.Core.Bool.{Bool, true, false}
+use mathlib.Core.Bool.{true, false}
 use mathlib.Core.List.{List, [], _∷_}
 use Prim.Native.Nat.{ℕ, _+_, _≤_, _<_}
 use native.Mathlib.Numerals.{add-one}

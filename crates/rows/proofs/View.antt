@@ -1,10 +1,10 @@
--- Laws of the view: its length, what stands at a place, what a store changes, its parts, and two joined. Both views map a function
--- over rows, so each law is one of `map`.
+-- Laws of the view: its length, what stands at a place, what a store changes, and its first part. Both views map a function over rows,
+-- so each law is one of `map`.
 use mathlib.Core.Path.{_≡_, refl, ap}
-use mathlib.Core.List.{List, [], _∷_, _++_, map, map-append}
+use mathlib.Core.List.{List, [], _∷_, map}
 use Prim.Native.Nat.{ℕ, zero, suc}
 use lib.IntN.{ℤ}
-use lib.ListN.{length, take, drop, getD, set, length-map, List·getD-map}
+use lib.ListN.{length, take, getD, set, length-map, List·getD-map}
 use Rattle.rows.specs.View.{taskOf, noTask, tasksOf, resourceOf, noResource, resourcesOf}
 
 -- ---- over any function
@@ -18,11 +18,6 @@ module _ {A B : Type 0} (f : A → B) where
   map-take zero s = refl
   map-take (suc n) [] = refl
   map-take (suc n) (x ∷ s) = ap (λ (l : List B). f x ∷ l) (map-take n s)
-
-  pub map-drop : (n : ℕ) (s : List A) → map f (drop n s) ≡ drop n (map f s)
-  map-drop zero s = refl
-  map-drop (suc n) [] = refl
-  map-drop (suc n) (x ∷ s) = map-drop n s
 
 -- ---- tasks
 pub length-tasks : (s : List (List ℤ)) → length (tasksOf s) ≡ length s
@@ -41,14 +36,6 @@ pub tasks-take : (n : ℕ) (s : List (List ℤ)) → tasksOf (take n s) ≡ take
 unfolding tasksOf
 tasks-take = map-take taskOf
 
-pub tasks-drop : (n : ℕ) (s : List (List ℤ)) → tasksOf (drop n s) ≡ drop n (tasksOf s)
-unfolding tasksOf
-tasks-drop = map-drop taskOf
-
-pub tasks-append : (s t : List (List ℤ)) → tasksOf (s ++ t) ≡ tasksOf s ++ tasksOf t
-unfolding tasksOf
-tasks-append s t = map-append taskOf s t
-
 -- ---- resources
 pub length-resources : (s : List (List ℤ)) → length (resourcesOf s) ≡ length s
 unfolding resourcesOf
@@ -65,11 +52,3 @@ resources-set = map-set resourceOf
 pub resources-take : (n : ℕ) (s : List (List ℤ)) → resourcesOf (take n s) ≡ take n (resourcesOf s)
 unfolding resourcesOf
 resources-take = map-take resourceOf
-
-pub resources-drop : (n : ℕ) (s : List (List ℤ)) → resourcesOf (drop n s) ≡ drop n (resourcesOf s)
-unfolding resourcesOf
-resources-drop = map-drop resourceOf
-
-pub resources-append : (s t : List (List ℤ)) → resourcesOf (s ++ t) ≡ resourcesOf s ++ resourcesOf t
-unfolding resourcesOf
-resources-append s t = map-append resourceOf s t

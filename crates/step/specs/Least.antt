@@ -1,4 +1,4 @@
--- The least that all stretches leave, and whether a task asks for more.
+-- The least that all stretches leave, which tasks a bar can touch, and whether a task asks for more.
 use mathlib.Core.Bool.{Bool}
 use mathlib.Core.List.{List}
 use Prim.Native.Nat.{ℕ, _-_, _<_}

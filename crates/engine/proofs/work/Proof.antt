@@ -1,5 +1,4 @@
 -- Each call by its own function: what it leaves is what the page works out at least.
-use native.Mathlib.Omega.{arith}
 use mathlib.Core.Path.{_≡_, sym, ap, _∙_}
 use mathlib.Core.Bool.{true}
 use mathlib.Core.List.{List}
@@ -13,15 +12,13 @@ use Rattle.plan.specs.declared.Task.{Task}
 use Rattle.rules.specs.Allowed.{limitOn}
 use Rattle.rules.specs.Balance.{balance}
 use Rattle.rules.specs.Step.{atLeastStep}
-use Rattle.rules.specs.Settle.{Settled, pass}
+use Rattle.rules.specs.Settle.{pass}
 use Rattle.rows.specs.View.{tasksOf, resourcesOf, noTask, noResource}
-use Rattle.rows.proofs.View.{length-resources}
 use Rattle.rows.proofs.Fits.{accepts}
 use Rattle.engine.specs.declared.Call.{Call}
 use Rattle.passes.specs.declared.Settling.{Settling}
 use Rattle.passes.specs.Facing.{resourcesFacing}
 use Rattle.passes.specs.Answers.{settledOf}
-use Rattle.engine.specs.Answers.{leftOf}
 use Rattle.engine.specs.Calls.{placedIn, workOf}
 use Rattle.engine.proofs.Calls.{left-settled, all-idle}
 use borrow.Author.Needs.{needs}

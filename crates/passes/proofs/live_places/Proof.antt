@@ -1,7 +1,7 @@
 -- From the front: the places of the tasks from i on, joined to the mask as it is, are those of all.
 use borrow.Author.Needs.{needs}
 use native.Mathlib.Omega.{arith}
-use mathlib.Core.Path.{_≡_, refl, sym, ap, _∙_}
+use mathlib.Core.Path.{_≡_, refl, sym, _∙_}
 use Prim.Native.Nat.{ℕ, _≤_, _-_}
 use lib.ListN.{length, drop}
 use Rattle.rows.specs.View.{tasksOf, noTask}

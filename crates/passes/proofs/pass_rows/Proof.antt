@@ -63,15 +63,12 @@ balance-requires c κs =
     let b = c .before .before .before in
     λ k l. accepts (qs b) (ts b) (b .pre .0) .tasks noTask k l .ranges
 
--- src/lib.rt:169:18
 some-touched-requires : tie.Need-some-touched-requires
 some-touched-requires c κs = search needs
 
--- src/lib.rt:173:9
 same-length : tie.Need-same-length
 same-length c = search needs
 
--- src/lib.rt:173:9
 returns : tie.Need-returns
 returns c =
     let d = c .before .before .before .before .before in
@@ -81,7 +78,6 @@ returns c =
       λ h. clash (d .balance .result .ok) h no,
     )
 
--- src/lib.rt:175:5
 steps-rows-requires : tie.Need-steps-rows-requires
 unfolding union
 steps-rows-requires c κs =
@@ -91,23 +87,18 @@ steps-rows-requires c κs =
     let l = d .balance .kept in
     ((ok, keeps d ok .accepted), (noted d ok .idle, record { keys = omega (arith, b .pre .1 .1 .keys, l); spare = omega (arith, b .pre .1 .1 .spare, l); stretches = omega (arith, b .pre .1 .1 .stretches, l) }))
 
--- src/lib.rt:151:1
 same-length-2 : tie.Need-same-length-2
 same-length-2 c = search needs
 
--- src/lib.rt:151:1
 same-length-3 : tie.Need-same-length-3
 same-length-3 c = search needs
 
--- src/lib.rt:151:1
 same-length-4 : tie.Need-same-length-4
 same-length-4 c = search needs
 
--- src/lib.rt:151:1
 same-length-5 : tie.Need-same-length-5
 same-length-5 c = search needs
 
--- src/lib.rt:151:1
 returns-2 : tie.Need-returns-2
 unfolding union
 returns-2 c =

@@ -44,7 +44,6 @@ loop-holds c =
     let b = c .before .before .before .before in
     (refl, refl, refl, refl, rw (c .live-places .ensures) (settles-start (facing (b .args .sense) (b .args .q .now)) (tasksOf (b .args .s .now)) (b .pre .0)))
 
--- src/lib.rt:194:13
 pass-rows-requires : tie.Need-pass-rows-requires Inv-loop μ-loop
 pass-rows-requires c κs =
     let l = c .before .before .before .before in
@@ -57,23 +56,18 @@ pass-rows-requires c κs =
       ),
     )
 
--- src/lib.rt:196:13
 same-length : tie.Need-same-length Inv-loop μ-loop
 same-length c = omega arith
 
--- src/lib.rt:196:13
 same-length-2 : tie.Need-same-length-2 Inv-loop μ-loop
 same-length-2 c = omega arith
 
--- src/lib.rt:196:13
 same-length-3 : tie.Need-same-length-3 Inv-loop μ-loop
 same-length-3 c = omega arith
 
--- src/lib.rt:196:13
 same-length-4 : tie.Need-same-length-4 Inv-loop μ-loop
 same-length-4 c = omega arith
 
--- src/lib.rt:196:13
 returns : tie.Need-returns Inv-loop μ-loop
 returns c =
     let d = c .before .before .before .before .before .before .before .before in
@@ -87,7 +81,6 @@ returns c =
     let p = d .pass-rows .result in
     sym (settles-none qs ts us (l .loop .mask) (l .loop .passes) g (p .ok) vs (d .pass-rows .ensures .0) (not-true (p .ok) (c .if1 .taken)))
 
--- src/lib.rt:198:9
 add-passes : tie.Need-add-passes Inv-loop μ-loop
 add-passes c =
     let l = c .before .before .before .before .before .before .before .before .before .before .before .before .before in
@@ -95,23 +88,18 @@ add-passes c =
     let m = rooms-most (facing (b .args .sense) (b .args .q .now)) (tasksOf (b .args .s .now)) (b .pre .0) in
     omega (arith, l .loop .inv .4 .room)
 
--- src/lib.rt:200:13
 same-length-5 : tie.Need-same-length-5 Inv-loop μ-loop
 same-length-5 c = omega arith
 
--- src/lib.rt:200:13
 same-length-6 : tie.Need-same-length-6 Inv-loop μ-loop
 same-length-6 c = omega arith
 
--- src/lib.rt:200:13
 same-length-7 : tie.Need-same-length-7 Inv-loop μ-loop
 same-length-7 c = omega arith
 
--- src/lib.rt:200:13
 same-length-8 : tie.Need-same-length-8 Inv-loop μ-loop
 same-length-8 c = omega arith
 
--- src/lib.rt:200:13
 returns-2 : tie.Need-returns-2 Inv-loop μ-loop
 returns-2 c =
     let d = c .before .before .before .before .before .before .before .before .before .before in
@@ -126,7 +114,6 @@ returns-2 c =
     let ok = is-true (p .ok) (c .before .before .if1 .left) in
     sym (settles-last qs ts us (l .loop .mask) (l .loop .passes) g (p .ok) vs (d .pass-rows .ensures .0) ok (p .changed) (p .mask) (d .pass-rows .ensures .1 ok) (not-true (p .changed) (c .if2 .taken)))
 
--- src/lib.rt:193:5
 loop-less : tie.Need-loop-less Inv-loop μ-loop
 loop-less c =
     let d = c .before .before .before .before .before .before .before .before .before .before in
@@ -141,7 +128,6 @@ loop-less c =
     let ok = is-true (p .ok) (c .before .before .if1 .left) in
     settles-less qs ts us (l .loop .mask) (l .loop .passes) g (p .ok) vs (d .pass-rows .ensures .0) ok (p .changed) (p .mask) (d .pass-rows .ensures .1 ok) (is-true (p .changed) (c .if2 .left))
 
--- src/lib.rt:193:5
 loop-again : tie.Need-loop-again Inv-loop μ-loop
 loop-again c = (
   omega arith,

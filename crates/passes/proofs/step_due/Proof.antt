@@ -2,7 +2,7 @@
 use borrow.Author.Needs.{needs}
 use native.Mathlib.Omega.{arith}
 use mathlib.Core.Path.{_≡_, sym, ap, _∙_}
-use mathlib.Core.Bool.{Bool, true, false}
+use mathlib.Core.Bool.{Bool, false}
 use mathlib.Core.List.{List}
 use Prim.Native.Nat.{ℕ, _<_}
 use lib.ListN.{length, getD}
@@ -17,7 +17,6 @@ use Rattle.rows.specs.Changes.{outcomeOf, union}
 use Rattle.rows.proofs.View.{length-resources}
 use Rattle.rows.proofs.Fits.{Accepts, accepts}
 use Rattle.passes.specs.Facing.{resourcesFacing}
-use Rattle.passes.specs.Mask.{Noted}
 use Rattle.passes.proofs.Facing.{length-facing}
 use Rattle.passes.proofs.Mask.{step-keeps, step-noted, unchanged-noted}
 use Rattle.passes.proofs.step_due.Statement.{statement}

@@ -55,23 +55,18 @@ loop-holds c =
           (passing-start (facing (a .sense) (a .q .now)) (tasksOf (a .s .now)) (b .pre .0 .1) (a .first .changed) (a .first .mask) (b .pre .1 .0)),
     )
 
--- src/lib.rt:142:13
 same-length : tie.Need-same-length Inv-loop μ-loop
 same-length c = omega arith
 
--- src/lib.rt:142:13
 same-length-2 : tie.Need-same-length-2 Inv-loop μ-loop
 same-length-2 c = omega arith
 
--- src/lib.rt:142:13
 same-length-3 : tie.Need-same-length-3 Inv-loop μ-loop
 same-length-3 c = omega arith
 
--- src/lib.rt:142:13
 same-length-4 : tie.Need-same-length-4 Inv-loop μ-loop
 same-length-4 c = omega arith
 
--- src/lib.rt:142:13
 returns : tie.Need-returns Inv-loop μ-loop
 returns c =
     let l = c .before .before .before in
@@ -82,7 +77,6 @@ returns c =
       λ h. clash (l .loop .p .ok) h no,
     )
 
--- src/lib.rt:144:9
 step-due-requires : tie.Need-step-due-requires Inv-loop μ-loop
 step-due-requires c κs =
     let l = c .before .before .before .before .before .before .before in
@@ -96,15 +90,12 @@ step-due-requires c κs =
       ),
     )
 
--- src/lib.rt:145:9
 add-r : tie.Need-add-r Inv-loop μ-loop
 add-r c = omega arith
 
--- src/lib.rt:140:5
 loop-less : tie.Need-loop-less Inv-loop μ-loop
 loop-less c = omega arith
 
--- src/lib.rt:140:5
 loop-again : tie.Need-loop-again Inv-loop μ-loop
 loop-again c =
     let d = c .before .before .before .before .before .before in
@@ -125,23 +116,18 @@ loop-again c =
           (d .step-due .result .ok) (d .step-due .result .changed) (d .step-due .result .mask) (tasksOf (d .step-due .last .1 .1 .0)) (d .step-due .ensures .0) (d .step-due .ensures .1),
     )
 
--- src/lib.rt:123:1
 same-length-5 : tie.Need-same-length-5 Inv-loop μ-loop
 same-length-5 c = omega arith
 
--- src/lib.rt:123:1
 same-length-6 : tie.Need-same-length-6 Inv-loop μ-loop
 same-length-6 c = omega arith
 
--- src/lib.rt:123:1
 same-length-7 : tie.Need-same-length-7 Inv-loop μ-loop
 same-length-7 c = omega arith
 
--- src/lib.rt:123:1
 same-length-8 : tie.Need-same-length-8 Inv-loop μ-loop
 same-length-8 c = omega arith
 
--- src/lib.rt:123:1
 returns-2 : tie.Need-returns-2 Inv-loop μ-loop
 returns-2 c =
     let l = c .before in

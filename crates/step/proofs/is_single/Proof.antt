@@ -1,4 +1,4 @@
--- `step::is_single`: no bit, or none in common with the bits below the lowest.
+-- `step::is_single`: no bit, or nothing left without the lowest.
 use mathlib.Core.Path.{refl}
 use Rattle.step.specs.Least.{single}
 use borrow.Author.Needs.{needs}
