@@ -1,5 +1,5 @@
--- The mask stays right: a step changes only tasks that could stand where it is taken, and no other resource sees more of the change
--- than the sets of the changed tasks.
+-- The mask stays right: a step changes only tasks that could stand where it is taken, and no resource sees more of the change than the
+-- places that are noted as touched.
 use mathlib.Core.Path.{_≡_, refl, sym, ap, ap₂, _∙_, subst}
 use mathlib.Core.Bool.{Bool, true, false, not}
 use mathlib.Core.List.{List, [], _∷_}
@@ -10,16 +10,16 @@ use native.Mathlib.Omega.{arith}
 use lib.Dec.{eqb}
 use lib.IntN.{ℤ}
 use lib.ListN.{length, getD}
-use Rattle.integers.specs.Tests.{if, or, any}
-use Rattle.integers.proofs.Tests.{clash, by-cases, false-in}
+use Rattle.integers.specs.Tests.{if, and, or, any}
+use Rattle.integers.proofs.Tests.{clash, by-cases, false-in, same-test, and-first, and-second, and-in, not-out}
 use Rattle.plan.specs.declared.Task.{Task}
 use Rattle.plan.specs.declared.Power.{Power}
 use Rattle.plan.specs.declared.Resource.{Resource}
 use Rattle.plan.specs.declared.Narrowed.{Narrowed}
 use Rattle.plan.specs.declared.Narrowed.the-variants.{Kept, RanOut}
 use Rattle.plan.specs.declared.Sense.the-variants.{AtLeast}
-use Rattle.plan.specs.Sets.{has, without}
-use Rattle.plan.proofs.Sets.{without-keeps, eqb-true, eqb-in}
+use Rattle.plan.specs.Sets.{has, only, single, without}
+use Rattle.plan.proofs.Sets.{without-keeps, eqb-true, eqb-in, only-is, only-in, alone-only, single-only}
 use Rattle.rules.specs.Allowed.{limitOn}
 use Rattle.rules.specs.Balance.{Outcome, andThen, each, balance}
 use Rattle.rules.specs.Balance.Outcome.{NoPlan, Plan}
@@ -32,15 +32,17 @@ use Rattle.rules.proofs.Live.Lives.{no-lives, more-lives}
 use Rattle.rules.proofs.Subs.{SubTask, Subs, subs-length}
 use Rattle.rules.proofs.Subs.Subs.{no-subs, more-subs}
 use Rattle.rules.proofs.Quiet.{narrowed-away}
-use Rattle.rules.proofs.Elsewhere.{Beside, step-elsewhere}
-use Rattle.rules.proofs.Elsewhere.Beside.{no-tasks, same-task, other-task}
+use Rattle.rules.proofs.Sets.{kept-set-is, set-stayed}
+use Rattle.rules.proofs.Elsewhere.{Alike, Beside, step-elsewhere}
+use Rattle.rules.proofs.Elsewhere.Beside.{no-tasks, same-task, other-task, other-set}
 use Rattle.rules.proofs.Checks.{check-live}
 use Rattle.rules.proofs.Limits.{ResourceAt}
 use Rattle.rules.proofs.Limits.ResourceAt.{first, next}
 use Rattle.rules.proofs.Keeps.{Keeps, Sound, balance-sound, step-sound}
 use Rattle.rows.specs.View.{noTask, noResource}
-use Rattle.rows.specs.Changes.{union, touchedBy}
-use Rattle.rows.proofs.Changes.{same-task-is, union-has, touched-tells, same-tasks-self}
+use Rattle.rows.specs.Changes.{union, sameRanges, differing, seenBy, touchedBy}
+use Rattle.rows.proofs.Changes.{same-task-is, same-set, union-has, differing-has, same-origin, same-duration, same-end, same-height, touched-tells, same-tasks-self}
+use Rattle.rows.proofs.Walk.{first-kept}
 use Rattle.rows.specs.Fits.{TaskFits}
 use Rattle.rows.proofs.Fits.{accepts}
 use Rattle.passes.specs.Mask.{Idle, Noted}
@@ -53,7 +55,59 @@ or-none false b h = (refl, h)
 pub union-none : (a b k : ℕ) → has (union a b) k ≡ false → (has a k ≡ false) × (has b k ≡ false)
 union-none a b k h = or-none (has a k) (has b k) (sym (union-has a b k) ∙ h)
 
--- ---- a change seen from a place that no changed task could stand on
+-- ---- how r sees that t became u
+-- some of one resource alone, and that one among them
+alone-again : (s r : ℕ) → has s r ≡ true → ((k : ℕ) → has s k ≡ true → has (2 ^ r) k ≡ true) → s ≡ 2 ^ r
+alone-again s r h f =
+    same-set s (2 ^ r) (λ k. same-test (has s k) (has (2 ^ r) k) (f k) (λ e. subst (λ (n : ℕ). has s n ≡ true) (sym (alone-only r k e)) h))
+
+-- it may stand on r neither before nor after, or it only lost other resources
+data Unseen (r : ℕ) (t u : Task) : Type 0 where
+  not-there : has (t .set) r ≡ false → has (u .set) r ≡ false → Unseen r t u
+  lost-others : sameRanges t u ≡ true → Alike r t u → Unseen r t u
+
+module _ (r : ℕ) (t u : Task) (sub : (k : ℕ) → has (u .set) k ≡ true → has (t .set) k ≡ true) (unseen : has (seenBy t u) r ≡ false) where
+  abbrev lost : Bool
+  lost = and (sameRanges t u) (not (single (u .set)))
+
+  unseen-is : Unseen r t u
+  unseen-is =
+      by-cases lost
+      (λ e.
+      let same : sameRanges t u ≡ true = and-first (sameRanges t u) (not (single (u .set))) e in
+      let more : single (u .set) ≡ false = not-out (single (u .set)) (and-second (sameRanges t u) (not (single (u .set))) e) in
+      let eq : has (t .set) r ≡ has (u .set) r = differing-has (t .set) (u .set) r (seen-lost e) in
+      let shares : only (u .set) r ≡ false = false-in (only (u .set) r) (λ o. clash (single (u .set)) (single-only (u .set) r o) more) in
+      by-cases (has (t .set) r)
+      (λ h.
+      let has-too : has (u .set) r ≡ true = sym eq ∙ h in
+      lost-others same
+      (record {
+        origin = same-origin t u same;
+        duration = same-duration t u same;
+        end = same-end t u same;
+        height = same-height t u same;
+        had = h;
+        has = has-too;
+        shared =
+            false-in (only (t .set) r)
+            (λ o.
+            let alone = only-is (t .set) r o in
+            clash (only (u .set) r) (only-in (u .set) r (alone-again (u .set) r has-too (λ k e. subst (λ (x : ℕ). has x k ≡ true) alone (sub k e)))) shares);
+        shares = shares;
+      }))
+      (λ h. not-there h (sym eq ∙ h)))
+      (λ e. let h = seen-all e in not-there h (false-in (has (u .set) r) (λ q. clash (has (t .set) r) (sub r q) h)))
+    where
+      seen-lost : lost ≡ true → has (differing (t .set) (u .set)) r ≡ false
+      unfolding seenBy
+      seen-lost e = rw e at unseen
+
+      seen-all : lost ≡ false → has (t .set) r ≡ false
+      unfolding seenBy
+      seen-all e = rw e at unseen
+
+-- ---- a change seen from a place that sees none of the changed tasks change
 beside-of : (r : ℕ) {us ts : List Task} → Subs us ts → Lives us → has (touchedBy ts us) r ≡ false → Beside r ts us
 unfolding touchedBy
 beside-of r no-subs no-lives h = no-tasks
@@ -61,48 +115,49 @@ beside-of r (more-subs {u} {t} {us} {ts} s f) (more-lives l k) h =
     by-cases (sameTask t u)
     (λ e. subst (λ (x : Task). Beside r (t ∷ ts) (x ∷ us)) (same-task-is t u e) (same-task (beside-of r f k (rw e at h))))
     (λ e.
-    let n = union-none (t .set) (touchedBy ts us) r (rw e at h) in
-    other-task (n .0) (false-in (has (u .set) r) (λ q. clash (has (t .set) r) (s .set r q) (n .0))) l (beside-of r f k (n .1)))
+    let n = union-none (seenBy t u) (touchedBy ts us) r (rw e at h) in
+    placed (unseen-is r t u (s .set) (n .0)) (beside-of r f k (n .1)))
+  where
+    placed : Unseen r t u → Beside r ts us → Beside r (t ∷ ts) (u ∷ us)
+    placed (not-there a b) rest = other-task a b l rest
+    placed (lost-others e a) rest = other-set a l rest
 
 -- ---- a step that touches no task on its own resource changes nothing
-pub record First (n : Narrowed) (o : Outcome) (us : List Task) : Type 0 where
-  pub task : Task
-  pub rest : List Task
-  pub kept : n ≡ Kept task
-  pub plan : o ≡ Plan rest
-  pub all : us ≡ task ∷ rest
-
-first-of : (n : Narrowed) (o : Outcome) (us : List Task) → andThen n o ≡ Plan us → First n o us
-first-of (RanOut v) o us e = let q : _≡_ {A = ℕ} 0 1 = cc in absurd (omega arith)
-first-of (Kept t) NoPlan us e = let q : _≡_ {A = ℕ} 0 1 = cc in absurd (omega arith)
-first-of (Kept t) (Plan vs) us e = record { task = t; rest = vs; kept = refl; plan = refl; all = cc }
+-- a task that the step left with r and another resource has its set as it was; with the same ranges it is the same
+same-again : (t u : Task) → sameRanges t u ≡ true → u .set ≡ t .set → sameTask t u ≡ true
+unfolding sameTask sameRanges
+same-again t u e s = and-in (eqb (t .set) (u .set)) (sameRanges t u) (eqb-in (t .set) (u .set) (sym s)) e
 
 untouched : (f : Task → Narrowed) (r : ℕ) → ((t : Task) → has (t .set) r ≡ false → Live t → f t ≡ Kept t)
-    → {ts : List Task} → Lives ts → (us : List Task) → each f ts ≡ Plan us → has (touchedBy ts us) r ≡ false → us ≡ ts
+    → ((t u : Task) → f t ≡ Kept u → has (u .set) r ≡ true → only (u .set) r ≡ false → u .set ≡ t .set)
+    → {ts us : List Task} → Subs us ts → Lives ts → each f ts ≡ Plan us → has (touchedBy ts us) r ≡ false → us ≡ ts
 unfolding each touchedBy
-untouched f r away no-lives us e h = cc
-untouched f r away (more-lives {t} {ts} l k) us e h =
-    let p = first-of (f t) (each f ts) us e in
-    let u = p .task in
-    let vs = p .rest in
-    let g : has (touchedBy (t ∷ ts) (u ∷ vs)) r ≡ false = subst (λ (x : List Task). has (touchedBy (t ∷ ts) x) r ≡ false) (p .all) h in
-    p .all
-    ∙ by-cases (sameTask t u)
-    (λ q. ap₂ (λ (x : Task) (xs : List Task). x ∷ xs) (sym (same-task-is t u q)) (untouched f r away k vs (p .plan) (rw q at g)))
-    (λ q.
-    let n = union-none (t .set) (touchedBy ts vs) r (rw q at g) in
-    let same : u ≡ t = cc (away t (n .0) l, p .kept) in
-    ap₂ (λ (x : Task) (xs : List Task). x ∷ xs) same (untouched f r away k vs (p .plan) (n .1)))
+untouched f r away stays no-subs no-lives e h = refl
+untouched f r away stays (more-subs {u} {t} {us} {ts} s subs) (more-lives l k) e h =
+    let p = first-kept (f t) (each f ts) u us e in
+    ap₂ (λ (x : Task) (xs : List Task). x ∷ xs)
+    (by-cases (sameTask t u) (λ q. sym (same-task-is t u q))
+    (λ q. same q (unseen-is r t u (s .set) (union-none (seenBy t u) (touchedBy ts us) r (rw q at h) .0)) (p .0)))
+    (untouched f r away stays subs k (p .1) (by-cases (sameTask t u) (λ q. rw q at h) (λ q. union-none (seenBy t u) (touchedBy ts us) r (rw q at h) .1)))
+  where
+    same : sameTask t u ≡ false → Unseen r t u → f t ≡ Kept u → u ≡ t
+    same q (not-there a b) p = cc (away t a l, p)
+    same q (lost-others e a) p = clash (sameTask t u) (same-again t u e (stays t u p (a .has) (a .shares))) q
 
 if-plan : (b : Bool) (o : Outcome) (us : List Task) → if b NoPlan o ≡ Plan us → o ≡ Plan us
 if-plan true o us e = let q : _≡_ {A = ℕ} 0 1 = cc in absurd (omega arith)
 if-plan false o us e = e
 
-step-untouched : (r : ℕ) (limit : ℤ → ℤ) (ts us : List Task) → Lives ts → atLeastStep r limit ts ≡ Plan us → has (touchedBy ts us) r ≡ false → us ≡ ts
+step-untouched : (r : ℕ) (limit : ℤ → ℤ) (ts us : List Task) → Subs us ts → Lives ts → atLeastStep r limit ts ≡ Plan us → has (touchedBy ts us) r ≡ false → us ≡ ts
 unfolding atLeastStep
-step-untouched r limit ts us l e h =
-    untouched (narrowed r limit ts (listedDays ts)) r (λ t a v. narrowed-away r limit ts t a (listedDays ts) v) l us
+step-untouched r limit ts us s l e h =
+    untouched (narrowed r limit ts (listedDays ts)) r (λ t a v. narrowed-away r limit ts t a (listedDays ts) v) stays s l
     (if-plan (any (shortfall r limit ts) (listedDays ts)) (each (narrowed r limit ts (listedDays ts)) ts) us e) h
+  where
+    stays : (t u : Task) → narrowed r limit ts (listedDays ts) t ≡ Kept u → has (u .set) r ≡ true → only (u .set) r ≡ false → u .set ≡ t .set
+    stays t u p a o =
+        let k = kept-set-is r limit ts (listedDays ts) t u p in
+        k ∙ set-stayed r limit ts (listedDays ts) t (subst (λ (x : ℕ). has x r ≡ true) k a) (subst (λ (x : ℕ). only x r ≡ false) k o)
 
 -- ---- the resource at a place
 at-from : (k j : ℕ) (qs : List Resource) → j < length qs → ResourceAt (getD qs j noResource) (k + j) k qs
@@ -158,7 +213,7 @@ module _ (qs : List Resource) (ts us : List Task) (a : check qs ts ≡ Accepted)
               by-cases (eqb p r)
               (λ q.
               let same = eqb-true p r q in
-              let still = step-untouched r (limitOn (getD qs r noResource)) ts us (check-live qs ts a) e (rw same at (n .1)) in
+              let still = step-untouched r (limitOn (getD qs r noResource)) ts us (k .inside) (check-live qs ts a) e (rw same at (n .1)) in
               rw (same, still) (subst (λ (x : List Task). atLeastStep r (limitOn (getD qs r noResource)) ts ≡ Plan x) still e))
               (λ q.
               idle-after mask idle p h

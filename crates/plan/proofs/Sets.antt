@@ -24,6 +24,10 @@ pub only-is : (s k : ℕ) → only s k ≡ true → s ≡ 2 ^ k
 unfolding only
 only-is s k = eqb-true s (2 ^ k)
 
+pub only-in : (s k : ℕ) → s ≡ 2 ^ k → only s k ≡ true
+unfolding only
+only-in s k = eqb-in s (2 ^ k)
+
 -- the set of one of 64 places, as the code makes it
 pub bit-small : (k : ℕ) → k < 64 → 1 * 2 ^ k % 18446744073709551616 ≡ 2 ^ k
 bit-small k h =
@@ -189,11 +193,28 @@ some-from (suc n) s l e =
 pub some-place : (s : ℕ) → eqb s 0 ≡ false → (k : ℕ) × (has s k ≡ true)
 some-place s e = some-from s s (omega arith) e
 
+-- what is taken out is gone
+pub less-out : (s r : ℕ) → has s r ≡ true → has (s - 2 ^ r) r ≡ true → ⊥
+unfolding has
+less-out s zero h g =
+    let a = eqb-true (s % 2) 1 h in
+    let b = eqb-true ((s - 1) % 2) 1 g in
+    omega arith
+less-out s (suc r) h g =
+    let l : 2 ^ r ≤ s / 2 = has-le (s / 2) r h in
+    let d : (s - 2 ^ suc r) / 2 ≡ s / 2 - 2 ^ r = omega (arith, two-pow-succ r) in
+    less-out (s / 2) r h (rw d at g)
+
 -- ---- the set without a place
 pub without-has : (s r k : ℕ) → has (without s r) k ≡ true → has s k ≡ true
 unfolding without
 without-has s r k =
     if-case (λ u. has u k ≡ true → has s k ≡ true) (has s r) (s - 2 ^ r) s (λ e h. less-has s r k e h) (λ e h. h)
+
+pub without-out : (s r : ℕ) → has (without s r) r ≡ true → ⊥
+unfolding without
+without-out s r =
+    if-case (λ u. has u r ≡ true → ⊥) (has s r) (s - 2 ^ r) s (λ e h. less-out s r e h) (λ e h. clash (has s r) h e)
 
 pub without-keeps : (s r k : ℕ) → has s k ≡ true → k ≢ r → has (without s r) k ≡ true
 unfolding without

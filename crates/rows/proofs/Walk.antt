@@ -88,7 +88,7 @@ none-kept (RanOut v) o h = no-plan [] h
 none-kept (Kept u) NoPlan h = no-plan [] h
 none-kept (Kept u) (Plan vs) h = let q : _≡_ {A = ℕ} 0 1 = cc in absurd (omega arith)
 
-first-kept : (n : Narrowed) (o : Outcome) (u : Task) (us : List Task) → andThen n o ≡ Plan (u ∷ us) → (n ≡ Kept u) × (o ≡ Plan us)
+pub first-kept : (n : Narrowed) (o : Outcome) (u : Task) (us : List Task) → andThen n o ≡ Plan (u ∷ us) → (n ≡ Kept u) × (o ≡ Plan us)
 first-kept (RanOut v) o u us h = no-plan (u ∷ us) h
 first-kept (Kept v) NoPlan u us h = no-plan (u ∷ us) h
 first-kept (Kept v) (Plan vs) u us h = (cc, cc)

@@ -1,5 +1,5 @@
 -- A change elsewhere does not concern r: where the step of r changes nothing on ts, it changes nothing on ts with some tasks replaced,
--- if none of those has r in its set, before or after.
+-- if none of those has r in its set, before or after, or only other resources left a set that still has r and another one.
 use mathlib.Core.Path.{_≡_, refl, sym, ap, ap₂, _∙_, subst}
 use Prim.Native.Nat.{ℕ, _^_}
 use native.Mathlib.Omega.{arith}
@@ -30,15 +30,28 @@ use Rattle.rules.proofs.Subs.{Subs}
 use Rattle.rules.proofs.Subs.Subs.{no-subs, more-subs}
 use Rattle.rules.proofs.Rooms.{same-task-is}
 use Rattle.rules.proofs.Shrinks.{Shrunk, resource-step-shrunk}
-use Rattle.rules.proofs.Quiet.{possible-away, sure-away, narrowed-away}
+use Rattle.rules.proofs.Quiet.{narrowed-quiet, possible-away, sure-away, narrowed-away}
+use Rattle.rules.proofs.Sets.{kept-set-is, no-need-spoke, no-bar-spoke}
 use Rattle.rules.proofs.Possible.{no-sure, no-need, no-bar, no-shut}
 use Rattle.rules.proofs.Unlisted.{live-in, no-shortfall-ever}
 
--- us is ts with some tasks replaced, none of which has r in its set; what replaces is not empty
+-- r sees no difference: the ranges are the same, and both sets have r and another resource
+pub record Alike (r : ℕ) (t u : Task) : Type 0 where
+  pub origin : t .origin ≡ u .origin
+  pub duration : t .duration ≡ u .duration
+  pub end : t .end ≡ u .end
+  pub height : t .height ≡ u .height
+  pub had : has (t .set) r ≡ true
+  pub has : has (u .set) r ≡ true
+  pub shared : only (t .set) r ≡ false
+  pub shares : only (u .set) r ≡ false
+
+-- us is ts with some tasks replaced, none of which has r in its set or looks another to r; what replaces is not empty
 pub data Beside (r : ℕ) : List Task → List Task → Type 0 where
   no-tasks : Beside r [] []
   same-task : {t : Task} {ts us : List Task} → Beside r ts us → Beside r (t ∷ ts) (t ∷ us)
   other-task : {t u : Task} {ts us : List Task} → has (t .set) r ≡ false → has (u .set) r ≡ false → Live u → Beside r ts us → Beside r (t ∷ ts) (u ∷ us)
+  other-set : {t u : Task} {ts us : List Task} → Alike r t u → Live u → Beside r ts us → Beside r (t ∷ ts) (u ∷ us)
 
 -- as a test, on what a step left: each task is as it was, or did not have r
 unfoldable pub besideTest : ℕ → List Task → List Task → Bool
@@ -66,12 +79,34 @@ hope-away r t e i =
     rw (possible-away r (λ i. i) [] t e i, sure-away r (λ i. i) [] t e i)
     (if-case (λ x. x ≡ pos 0) (ltZ (pos 0) (t .height .high .0)) (pos 0) (pos 0) (λ e. refl) (λ e. refl))
 
+module _ (r : ℕ) {t u : Task} (a : Alike r t u) (i : ℤ) where
+  possible-alike : possible r i t ≡ possible r i u
+  unfolding possible
+  possible-alike = rw (a .had, a .has, a .origin, a .end)
+
+  running-alike : running r i t ≡ running r i u
+  unfolding running
+  running-alike = rw (a .origin, a .end)
+
+  unsure-first : sure r i t ≡ false
+  unfolding sure
+  unsure-first = rw (a .shared)
+
+  unsure-second : sure r i u ≡ false
+  unfolding sure
+  unsure-second = rw (a .shares)
+
+  hope-alike : hope r i t ≡ hope r i u
+  unfolding hope
+  hope-alike = rw (possible-alike, unsure-first, unsure-second, a .height)
+
 pub total-beside : (r : ℕ) {ts us : List Task} → Beside r ts us → (i : ℤ) → total r ts i ≡ total r us i
 unfolding total sumOf
 total-beside r no-tasks i = refl
 total-beside r (same-task {t} b) i = ap (λ (x : ℤ). hope r i t +ℤ x) (total-beside r b i)
 total-beside r (other-task {t} {u} e f l b) i =
     ap₂ _+ℤ_ (hope-away r t e i ∙ sym (hope-away r u f i)) (total-beside r b i)
+total-beside r (other-set a l b) i = ap₂ _+ℤ_ (hope-alike r a i) (total-beside r b i)
 
 pub counts-beside : (r : ℕ) {ts us : List Task} → Beside r ts us → (i : ℤ) → counts r ts i ≡ counts r us i
 unfolding counts any
@@ -79,6 +114,7 @@ counts-beside r no-tasks i = refl
 counts-beside r (same-task {t} b) i = ap (or (sure r i t)) (counts-beside r b i)
 counts-beside r (other-task {t} {u} e f l b) i =
     ap₂ or (sure-away r (λ i. i) [] t e i ∙ sym (sure-away r (λ i. i) [] u f i)) (counts-beside r b i)
+counts-beside r (other-set a l b) i = ap₂ or (unsure-first r a i ∙ sym (unsure-second r a i)) (counts-beside r b i)
 
 -- ---- a task of both lists: what the rules leave of it over all listed days of the one, they leave over any days of the other
 module _ (r : ℕ) (limit : ℤ → ℤ) (t : Task) (l : Live t) (ts us : List Task) (same-total : (i : ℤ) → total r ts i ≡ total r us i) (same-counts : (i : ℤ) → counts r ts i ≡ counts r us i) (k : In t ts) (days : List ℤ) where
@@ -195,6 +231,50 @@ module _ (r : ℕ) (limit : ℤ → ℤ) (t : Task) (l : Live t) (ts us : List T
         kept-set-same,
       )
 
+-- ---- a task that r can't tell from one that it keeps: on no day is it needed, and a bar neither shuts values out nor takes r away
+module _ (r : ℕ) (limit : ℤ → ℤ) (ts us : List Task) (same-total : (i : ℤ) → total r ts i ≡ total r us i) (same-counts : (i : ℤ) → counts r ts i ≡ counts r us i)
+    (t u : Task) (a : Alike r t u) (k : In t ts) (kept : narrowed r limit ts (listedDays ts) t ≡ Kept t) where
+  stayed : t .set ≡ keptSet r limit ts (listedDays ts) t
+  stayed = kept-set-is r limit ts (listedDays ts) t t kept
+
+  still-has : has (keptSet r limit ts (listedDays ts) t) r ≡ true
+  still-has = subst (λ (s : ℕ). has s r ≡ true) stayed (a .had)
+
+  still-shared : only (keptSet r limit ts (listedDays ts) t) r ≡ false
+  still-shared = subst (λ (s : ℕ). only s r ≡ false) stayed (a .shared)
+
+  never : (p : ℤ → Bool) → ((i : ℤ) → possible r i t ≡ false → p i ≡ false) → any p (listedDays ts) ≡ false → (i : ℤ) → p i ≡ false
+  never p f h i = not-out (p i) (every-day r (λ i. not (p i)) t ts k (λ i g. rw (f i g)) (not-any p (listedDays ts) h) i)
+
+  others-alike : (i : ℤ) → others r ts t i ≡ others r us u i
+  unfolding others
+  others-alike i = ap₂ _-ℤ_ (same-total i) (hope-alike r a i)
+
+  needed-alike : (i : ℤ) → needed r limit ts t i ≡ needed r limit us u i
+  unfolding needed
+  needed-alike i = rw (same-counts i, possible-alike r a i, others-alike i, a .height)
+
+  barred-alike : (i : ℤ) → barred r limit ts t i ≡ barred r limit us u i
+  unfolding barred
+  barred-alike i = rw (possible-alike r a i, others-alike i, a .height)
+
+  unneeded : (i : ℤ) → needed r limit us u i ≡ false
+  unneeded i =
+      sym (needed-alike i)
+      ∙ never (needed r limit ts t) (λ i e. no-need r i t limit ts e) (no-need-spoke r limit ts (listedDays ts) t still-has still-shared) i
+
+  unmoved : (i : ℤ) → and (barred r limit us u i) (running r i u) ≡ false
+  unmoved i =
+      sym (ap₂ and (barred-alike i) (running-alike r a i))
+      ∙ never (λ i. and (barred r limit ts t i) (running r i t)) (λ i e. rw (no-bar r i t limit ts e)) (no-bar-spoke r limit ts (listedDays ts) t still-has still-shared) i
+
+  alike-kept : (days : List ℤ) → Live u → narrowed r limit us days u ≡ Kept u
+  unfolding shut
+  alike-kept days l =
+      narrowed-quiet r limit us days u
+      (λ i. record { need = unneeded i; bar = rw (a .shares); leave = unmoved i; height = λ s. clash (sure r i u) s (unsure-second r a i) })
+      l
+
 -- ---- a step that changes nothing keeps every task, and the other way round
 and-then-still : (t : Task) (ts : List Task) (n : Narrowed) (o : Outcome) → andThen n o ≡ Plan (t ∷ ts) → (n ≡ Kept t) × (o ≡ Plan ts)
 and-then-still t ts (RanOut v) o e = let q : _≡_ {A = ℕ} 0 1 = cc (e) in absurd (omega arith)
@@ -217,6 +297,10 @@ module _ (r : ℕ) (limit : ℤ → ℤ) (ts us : List Task) (beside : Beside r 
       let kept : narrowed r limit us (listedDays us) t ≡ Kept t =
       sym (narrowed-same r limit t (live-in lives (f t head)) ts us (total-beside r beside) (counts-beside r beside) (f t head) (g t head)) ∙ still t (f t head) in
       ap₂ andThen kept (each-beside b (λ v k. f v (tail k)) (λ v k. g v (tail k)))
+  each-beside (other-set {t} {u} {us = ws} a l c) f g =
+      ap₂ andThen
+      (alike-kept r limit ts us (total-beside r beside) (counts-beside r beside) t u a (f t head) (still t (f t head)) (listedDays us) l)
+      (each-beside c (λ v k. f v (tail k)) (λ v k. g v (tail k)))
   each-beside (other-task {u} {us = ws} a b l c) f g =
       ap₂ andThen (narrowed-away r limit us u b (listedDays us) l) (each-beside c (λ v k. f v (tail k)) (λ v k. g v (tail k)))
 

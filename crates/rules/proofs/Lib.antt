@@ -15,6 +15,7 @@ pub mod BalanceSound
 pub mod AtMostSound
 pub mod Subs
 pub mod Shrinks
+pub mod Sets
 pub mod Checks
 pub mod Listings
 pub mod Keeps
