@@ -5,10 +5,11 @@ use mathlib.Core.Logic.{_≢_}
 use Prim.Native.Nat.{ℕ, zero, suc, _+_, _-_, _*_, _/_, _%_, _^_, _≤_, _<_}
 use native.Mathlib.Nat.{pow-succ', two-pow-succ, div-one, div-div-eq-div-mul, pow-le-pow-right}
 use native.Mathlib.Omega.{arith}
+use lib.Bits.{bitAnd, and-step}
 use lib.Dec.{T, eqb, eqb→eq, eqb-refl}
 use Rattle.integers.specs.Tests.{if}
 use Rattle.integers.proofs.Tests.{clash, by-cases, false-in, if-case}
-use Rattle.plan.specs.Sets.{has, only, without, size}
+use Rattle.plan.specs.Sets.{has, only, single, without, size}
 
 pub eqb-true : (a b : ℕ) → eqb a b ≡ true → a ≡ b
 eqb-true a b e = eqb→eq a b (subst T (sym e) tt)
@@ -23,6 +24,21 @@ eqb-in a b e = true-of (eqb a b) (subst (λ x. T (eqb a x)) e (eqb-refl a))
 pub only-is : (s k : ℕ) → only s k ≡ true → s ≡ 2 ^ k
 unfolding only
 only-is s k = eqb-true s (2 ^ k)
+
+-- one bit has nothing in common with the bits below it
+bit-below : (r : ℕ) → bitAnd (2 ^ r) (2 ^ r - 1) ≡ 0
+bit-below zero = refl
+bit-below (suc r) =
+    let e = bit-below r in
+    let l = two-pow-succ r in
+    let a : 2 ^ suc r / 2 ≡ 2 ^ r = omega arith in
+    let b : (2 ^ suc r - 1) / 2 ≡ 2 ^ r - 1 = omega arith in
+    let c : 2 ^ suc r % 2 ≡ 0 = omega arith in
+    and-step (2 ^ suc r) (2 ^ suc r - 1) ∙ rw (a, b, c, e) (omega arith)
+
+pub single-only : (s r : ℕ) → only s r ≡ true → single s ≡ true
+unfolding single
+single-only s r h = eqb-in (bitAnd s (s - 1)) 0 (subst (λ (x : ℕ). bitAnd x (x - 1) ≡ 0) (sym (only-is s r h)) (bit-below r))
 
 -- the set of one of 64 places, as the code makes it
 pub bit-small : (k : ℕ) → k < 64 → 1 * 2 ^ k % 18446744073709551616 ≡ 2 ^ k

@@ -1,6 +1,7 @@
 -- A set of resources as a number: "bit k is resource k". What holds of sets is said over numbers, whatever their width.
 use mathlib.Core.Bool.{Bool}
 use Prim.Native.Nat.{ℕ, zero, suc, _+_, _-_, _/_, _%_, _^_}
+use lib.Bits.{bitAnd}
 use lib.Dec.{eqb}
 use Rattle.integers.specs.Tests.{if}
 
@@ -12,6 +13,10 @@ has s (suc k) = has (s / 2) k
 -- resource k is in the set, and no other
 unfoldable pub only : ℕ → ℕ → Bool
 only s k = eqb s (2 ^ k)
+
+-- a set of one resource, or of none: its lowest bit is its only one
+unfoldable pub single : ℕ → Bool
+single s = eqb (bitAnd s (s - 1)) 0
 
 -- the set without resource k
 unfoldable pub without : ℕ → ℕ → ℕ

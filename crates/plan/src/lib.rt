@@ -12,7 +12,7 @@ ghost use Rattle.integers.specs.Whole.{larger, smaller};
 ghost use Rattle.plan.specs.Days.{day, dayLow, dayHigh, durationLow, durationHigh, cutBelow, cutAbove, cutTo, emptySpan, spanFits};
 ghost use Rattle.plan.specs.Powers.{power, powerLow, powerHigh, raised, emptyPowers, powersFit, powerFits, turned};
 ghost use Rattle.plan.specs.Refusals.{number, place};
-ghost use Rattle.plan.specs.Sets.{has, only, without};
+ghost use Rattle.plan.specs.Sets.{has, only, single, without};
 
 // A day number, or a number of days.
 pub struct Day(pub i64);
@@ -392,6 +392,16 @@ pub fn only_resource(set: u64, k: u64) -> bool
     ensures { λ r. ⌜ r ≡ only set k ⌝ }
 {
     set == 1 << k
+}
+
+// At most one bit: the lowest is the only one.
+pub fn single_resource(set: u64) -> bool
+    ensures { λ r. ⌜ r ≡ single set ⌝ }
+{
+    if set == 0 {
+        return true;
+    }
+    set & (set - 1) == 0
 }
 
 pub fn without_resource(set: u64, k: u64) -> u64

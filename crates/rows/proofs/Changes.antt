@@ -1,26 +1,27 @@
--- Laws of changes: when two tasks are the same, the union of two sets, and what the touched places say of a list before and after.
+-- Laws of changes: when two tasks are the same, the union of two sets and where they differ, and what the touched places say of a list before and after.
 use mathlib.Core.Path.{_≡_, refl, sym, ap, _∙_, subst}
-use mathlib.Core.Bool.{Bool, true, false}
+use mathlib.Core.Bool.{Bool, true, false, not}
 use mathlib.Core.List.{List, [], _∷_}
-use Prim.Native.Nat.{ℕ, zero, suc, _/_, _%_, _<_, max}
+use Prim.Native.Nat.{ℕ, zero, suc, _/_, _%_, _≤_, _<_, max}
 use native.Mathlib.Nat.{not-suc-le-zero, le-of-suc-le-suc}
 use native.Mathlib.Omega.{arith}
-use lib.Bits.{bitOr, or-step, or-comm}
+use lib.Bits.{bitOr, bitXor, differ, or-step, or-comm, xor-step}
 use lib.Dec.{eqb}
 use lib.ListN.{length, drop, getD, set, length-drop}
-use lib.Seq.{ext-getD}
 use Rattle.integers.specs.Whole.{eqZ}
 use Rattle.integers.specs.Tests.{if, and, or}
 use Rattle.integers.specs.Hull.{Range}
 use Rattle.integers.proofs.Z.{eqZ-in, eqZ-is}
-use Rattle.integers.proofs.Tests.{clash, by-cases, and-first, and-second, and-in, or-first, false-in, same-test}
+use Rattle.integers.proofs.Tests.{clash, by-cases, and-first, and-second, and-in, or-first, if-case, false-in, same-test}
 use Rattle.plan.specs.declared.Task.{Task}
+use Rattle.plan.specs.declared.Span.{Span}
+use Rattle.plan.specs.declared.PowerSpan.{PowerSpan}
 use Rattle.plan.specs.Days.{daysOf}
 use Rattle.plan.specs.Powers.{powersOf}
-use Rattle.plan.specs.Sets.{has}
-use Rattle.plan.proofs.Sets.{eqb-true, eqb-in, sub-le, has-not-zero, some-place}
+use Rattle.plan.specs.Sets.{has, single}
+use Rattle.plan.proofs.Sets.{eqb-true, eqb-in, sub-le, has-not-zero}
 use Rattle.rules.specs.Settle.{sameRange, sameTask, sameTasks}
-use Rattle.rows.specs.Changes.{union, touchedBy}
+use Rattle.rows.specs.Changes.{union, differing, sameRanges, seenBy, touchedBy}
 
 -- ---- the same task
 same-low : (a b : Range) → sameRange a b ≡ true → a .low ≡ b .low
@@ -35,36 +36,65 @@ range-self : (a : Range) → sameRange a a ≡ true
 unfolding sameRange
 range-self a = and-in (eqZ (a .low) (a .low)) (eqZ (a .high) (a .high)) (eqZ-in (a .low) (a .low) refl) (eqZ-in (a .high) (a .high) refl)
 
+same-days : (a b : Span) → sameRange (daysOf a) (daysOf b) ≡ true → a ≡ b
+same-days a b h =
+    let l = same-low (daysOf a) (daysOf b) h in
+    let k = same-high (daysOf a) (daysOf b) h in
+    (λ i. record { low = record { 0 = l i }; high = record { 0 = k i } })
+
+same-powers : (a b : PowerSpan) → sameRange (powersOf a) (powersOf b) ≡ true → a ≡ b
+same-powers a b h =
+    let l = same-low (powersOf a) (powersOf b) h in
+    let k = same-high (powersOf a) (powersOf b) h in
+    (λ i. record { low = record { 0 = l i }; high = record { 0 = k i } })
+
+-- the same ranges, one by one
+module _ (t u : Task) (h : sameRanges t u ≡ true) where
+  abbrev origins : Bool
+  origins = sameRange (daysOf (t .origin)) (daysOf (u .origin))
+
+  abbrev durations : Bool
+  durations = sameRange (daysOf (t .duration)) (daysOf (u .duration))
+
+  abbrev ends : Bool
+  ends = sameRange (daysOf (t .end)) (daysOf (u .end))
+
+  abbrev heights : Bool
+  heights = sameRange (powersOf (t .height)) (powersOf (u .height))
+
+  pub same-origin : t .origin ≡ u .origin
+  unfolding sameRanges
+  same-origin = same-days (t .origin) (u .origin) (and-first origins (and durations (and ends heights)) h)
+
+  past-origin : and durations (and ends heights) ≡ true
+  unfolding sameRanges
+  past-origin = and-second origins (and durations (and ends heights)) h
+
+  pub same-duration : t .duration ≡ u .duration
+  same-duration = same-days (t .duration) (u .duration) (and-first durations (and ends heights) past-origin)
+
+  past-duration : and ends heights ≡ true
+  past-duration = and-second durations (and ends heights) past-origin
+
+  pub same-end : t .end ≡ u .end
+  same-end = same-days (t .end) (u .end) (and-first ends heights past-duration)
+
+  pub same-height : t .height ≡ u .height
+  same-height = same-powers (t .height) (u .height) (and-second ends heights past-duration)
+
+  -- and so the task, where its set is the same too
+  same-but-set : t .set ≡ u .set → t ≡ u
+  same-but-set s =
+      let eo = same-origin in
+      let ed = same-duration in
+      let ee = same-end in
+      let eh = same-height in
+      (λ i. record { set = s i; origin = eo i; duration = ed i; end = ee i; height = eh i })
+
 pub same-task-is : (t u : Task) → sameTask t u ≡ true → t ≡ u
-unfolding sameTask
+unfolding sameTask sameRanges
 same-task-is t u h =
-    let o = sameRange (daysOf (t .origin)) (daysOf (u .origin)) in
-    let d = sameRange (daysOf (t .duration)) (daysOf (u .duration)) in
-    let e = sameRange (daysOf (t .end)) (daysOf (u .end)) in
-    let p = sameRange (powersOf (t .height)) (powersOf (u .height)) in
-    let s = eqb-true (t .set) (u .set) (and-first (eqb (t .set) (u .set)) (and o (and d (and e p))) h) in
-    let k = and-second (eqb (t .set) (u .set)) (and o (and d (and e p))) h in
-    let l = and-second o (and d (and e p)) k in
-    let m = and-second d (and e p) l in
-    let ho = and-first o (and d (and e p)) k in
-    let hd = and-first d (and e p) l in
-    let he = and-first e p m in
-    let hp = and-second e p m in
-    let ol = same-low (daysOf (t .origin)) (daysOf (u .origin)) ho in
-    let oh = same-high (daysOf (t .origin)) (daysOf (u .origin)) ho in
-    let dl = same-low (daysOf (t .duration)) (daysOf (u .duration)) hd in
-    let dh = same-high (daysOf (t .duration)) (daysOf (u .duration)) hd in
-    let el = same-low (daysOf (t .end)) (daysOf (u .end)) he in
-    let eh = same-high (daysOf (t .end)) (daysOf (u .end)) he in
-    let pl = same-low (powersOf (t .height)) (powersOf (u .height)) hp in
-    let ph = same-high (powersOf (t .height)) (powersOf (u .height)) hp in
-    (λ i. record {
-      set = s i;
-      origin = record { low = record { 0 = ol i }; high = record { 0 = oh i } };
-      duration = record { low = record { 0 = dl i }; high = record { 0 = dh i } };
-      end = record { low = record { 0 = el i }; high = record { 0 = eh i } };
-      height = record { low = record { 0 = pl i }; high = record { 0 = ph i } };
-    })
+    same-but-set t u (and-second (eqb (t .set) (u .set)) (sameRanges t u) h) (eqb-true (t .set) (u .set) (and-first (eqb (t .set) (u .set)) (sameRanges t u) h))
 
 pub same-task-self : (t : Task) → sameTask t t ≡ true
 unfolding sameTask
@@ -110,6 +140,37 @@ pub union-swap : (a b : ℕ) → union a b ≡ union b a
 unfolding union
 union-swap = or-comm
 
+union-le : (a b : ℕ) → a ≤ union a b
+union-le a b = sub-le a (union a b) (λ k h. union-has a b k ∙ or-first (has a k) (has b k) h)
+
+-- ---- where two sets differ
+differ-bit : (x y : ℕ) → x < 2 → y < 2 → differ x y < 2
+differ-bit zero y h k = k
+differ-bit (suc zero) zero h k = h
+differ-bit (suc zero) (suc y) h k = omega arith
+differ-bit (suc (suc x)) y h k = absurd (omega arith)
+
+same-bit : (x y : ℕ) → x < 2 → y < 2 → eqb (differ x y) 1 ≡ false → eqb x 1 ≡ eqb y 1
+same-bit zero zero h k e = refl
+same-bit zero (suc zero) h k e = clash true refl e
+same-bit (suc zero) zero h k e = clash true refl e
+same-bit (suc zero) (suc zero) h k e = refl
+same-bit zero (suc (suc y)) h k e = absurd (omega arith)
+same-bit (suc zero) (suc (suc y)) h k e = absurd (omega arith)
+same-bit (suc (suc x)) y h k e = absurd (omega arith)
+
+-- a place where they do not is in both or in neither
+pub differing-has : (a b k : ℕ) → has (differing a b) k ≡ false → has a k ≡ has b k
+unfolding differing has
+differing-has a b zero e =
+    let s = differ-bit (a % 2) (b % 2) (omega arith) (omega arith) in
+    let l : bitXor a b % 2 ≡ differ (a % 2) (b % 2) = omega (arith, xor-step a b) in
+    same-bit (a % 2) (b % 2) (omega arith) (omega arith) (rw l at e)
+differing-has a b (suc k) e =
+    let s = differ-bit (a % 2) (b % 2) (omega arith) (omega arith) in
+    let l : bitXor a b / 2 ≡ bitXor (a / 2) (b / 2) = omega (arith, xor-step a b) in
+    differing-has (a / 2) (b / 2) k (rw l at e)
+
 -- ---- the touched places
 -- nothing changed
 pub touched-self : (ts : List Task) → touchedBy ts ts ≡ 0
@@ -119,12 +180,12 @@ touched-self (t ∷ ts) = rw (same-task-self t) (touched-self ts)
 
 -- one task more put back: the first i are done, the others as they were
 pub touched-put : (d u : Task) (i : ℕ) (ts us : List Task) → i < length us → drop i us ≡ drop i ts
-    → touchedBy ts (set us i u) ≡ if (sameTask (getD us i d) u) (touchedBy ts us) (union (touchedBy ts us) ((getD us i d) .set))
+    → touchedBy ts (set us i u) ≡ if (sameTask (getD us i d) u) (touchedBy ts us) (union (touchedBy ts us) (seenBy (getD us i d) u))
 unfolding touchedBy
 touched-put d u i ts [] h e = absurd (not-suc-le-zero h)
 touched-put d u zero ts (v ∷ us) h e =
-    subst (λ (l : List Task). touchedBy l (u ∷ us) ≡ if (sameTask v u) (touchedBy l (v ∷ us)) (union (touchedBy l (v ∷ us)) (v .set))) e
-    (rw (same-task-self v, union-swap (v .set) (touchedBy us us)))
+    subst (λ (l : List Task). touchedBy l (u ∷ us) ≡ if (sameTask v u) (touchedBy l (v ∷ us)) (union (touchedBy l (v ∷ us)) (seenBy v u))) e
+    (rw (same-task-self v, union-swap (seenBy v u) (touchedBy us us)))
 touched-put d u (suc i) [] (v ∷ us) h e =
     let l : length (drop i us) ≡ 0 = ap length e in
     absurd (omega (arith, length-drop i us))
@@ -134,41 +195,39 @@ touched-put d u (suc i) (t ∷ ts) (v ∷ us) h e =
     by-cases (sameTask t v) (λ q. rw q r)
     (λ q.
     rw (q, r)
-    (by-cases (sameTask w u) (λ p. rw p) (λ p. rw p (sym (union-assoc (t .set) (touchedBy ts us) (w .set))))))
-
-or-rest : (a b : Bool) → or a b ≡ false → b ≡ false
-or-rest true b h = clash true refl h
-or-rest false b h = h
-
--- a task that could stand on an untouched place is as it was
-pub touched-not : (d : Task) (k j : ℕ) (ts us : List Task) → length us ≡ length ts → j < length ts → has (touchedBy ts us) k ≡ false
-    → has ((getD ts j d) .set) k ≡ true → getD us j d ≡ getD ts j d
-unfolding touchedBy
-touched-not d k j [] us l h n e = absurd (not-suc-le-zero h)
-touched-not d k j (t ∷ ts) [] l h n e = absurd (omega arith)
-touched-not d k zero (t ∷ ts) (u ∷ us) l h n e =
-    by-cases (sameTask t u) (λ q. sym (same-task-is t u q))
-    (λ q.
-    let m : or (has (t .set) k) (has (touchedBy ts us) k) ≡ false = sym (union-has (t .set) (touchedBy ts us) k) ∙ (rw q at n) in
-    clash (or (has (t .set) k) (has (touchedBy ts us) k)) (or-first (has (t .set) k) (has (touchedBy ts us) k) e) m)
-touched-not d k (suc j) (t ∷ ts) (u ∷ us) l h n e =
-    let m : has (touchedBy ts us) k ≡ false =
-    by-cases (sameTask t u) (λ q. rw q at n)
-    (λ q. or-rest (has (t .set) k) (has (touchedBy ts us) k) (sym (union-has (t .set) (touchedBy ts us) k) ∙ (rw q at n))) in
-    touched-not d k j ts us (omega arith) (le-of-suc-le-suc h) m e
+    (by-cases (sameTask w u) (λ p. rw p) (λ p. rw p (sym (union-assoc (seenBy t v) (touchedBy ts us) (seenBy w u))))))
 
 none : (k : ℕ) → has 0 k ≡ false
 none k = false-in (has 0 k) (λ e. clash (eqb 0 0) refl (has-not-zero 0 k e))
 
+-- a task that changed is seen by some resource, where its set is not empty: a set that lost nothing under the same ranges is no change
+seen-some : (t u : Task) → eqb (t .set) 0 ≡ false → sameTask t u ≡ false → seenBy t u ≡ 0 → ⊥
+unfolding seenBy
+seen-some t u f n =
+    if-case (λ s. s ≡ 0 → ⊥) (and (sameRanges t u) (not (single (u .set)))) (differing (t .set) (u .set)) (t .set)
+    (λ q e.
+    let s = same-set (t .set) (u .set) (λ k. differing-has (t .set) (u .set) k (rw e (none k))) in
+    let w = same-but-set t u (and-first (sameRanges t u) (not (single (u .set))) q) s in
+    clash (sameTask t u) (subst (λ x. sameTask t x ≡ true) w (same-task-self t)) n)
+    (λ q e. clash (eqb (t .set) 0) (eqb-in (t .set) 0 e) f)
+
 -- no place touched: nothing changed, where no task's set is empty
 pub touched-none : (d : Task) (ts us : List Task) → length us ≡ length ts → ((j : ℕ) → j < length ts → eqb ((getD ts j d) .set) 0 ≡ false)
     → touchedBy ts us ≡ 0 → us ≡ ts
-touched-none d ts us l f e =
-    ext-getD d us ts l
-    (λ j h.
-    let b : j < length ts = omega arith in
-    let p = some-place ((getD ts j d) .set) (f j b) in
-    touched-not d (p .0) j ts us l b (rw e (none (p .0))) (p .1))
+unfolding touchedBy
+touched-none d [] [] l f e = refl
+touched-none d [] (u ∷ us) l f e = absurd (omega arith)
+touched-none d (t ∷ ts) [] l f e = absurd (omega arith)
+touched-none d (t ∷ ts) (u ∷ us) l f e =
+    by-cases (sameTask t u)
+    (λ q.
+    let a = same-task-is t u q in
+    let b = touched-none d ts us (omega arith) (λ j h. f (suc j) (omega arith)) (rw q at e) in
+    cc)
+    (λ q.
+    let a : union (seenBy t u) (touchedBy ts us) ≡ 0 = rw q at e in
+    let b = union-le (seenBy t u) (touchedBy ts us) in
+    absurd (seen-some t u (f 0 (omega arith)) q (omega arith)))
 
 -- ---- "changes nothing", over the list
 pub same-tasks-self : (ts : List Task) → sameTasks ts ts ≡ true

@@ -16,7 +16,7 @@ use Rattle.rules.specs.Balance.Outcome.{NoPlan, Plan}
 use Rattle.rules.specs.Settle.{sameTask}
 use Rattle.rules.proofs.Walk.{eachLeft, each-start, each-kept, each-same, each-out, each-end}
 use Rattle.rows.specs.View.{noTask}
-use Rattle.rows.specs.Changes.{union, touchedBy}
+use Rattle.rows.specs.Changes.{union, seenBy, touchedBy}
 use Rattle.rows.proofs.Changes.{touched-self, touched-put}
 
 no-plan : {X : Type 0} (us : List Task) → NoPlan ≡ Plan us → X
@@ -43,7 +43,7 @@ begun-next ts i us touched w =
 
 -- one task more is put back
 pub begun-more : (ts : List Task) (i : ℕ) (us : List Task) (touched : ℕ) (u : Task) → i < length us → Begun ts i us touched
-    → Begun ts (i + 1) (set us i u) (if (sameTask (getD us i noTask) u) touched (union touched ((getD us i noTask) .set)))
+    → Begun ts (i + 1) (set us i u) (if (sameTask (getD us i noTask) u) touched (union touched (seenBy (getD us i noTask) u)))
 begun-more ts i us touched u l w =
     record {
       size = length-set us i u ∙ w .size;
@@ -69,7 +69,7 @@ module _ (f : Task → Narrowed) (ts : List Task) where
   walk-next i us touched w = begun-next ts i us touched (w .begun)
 
   pub walk-kept : (i : ℕ) (us : List Task) (touched : ℕ) (u : Task) → i < length us → f (getD us i noTask) ≡ Kept u → Walk i us touched
-      → Walk (i + 1) (set us i u) (if (sameTask (getD us i noTask) u) touched (union touched ((getD us i noTask) .set)))
+      → Walk (i + 1) (set us i u) (if (sameTask (getD us i noTask) u) touched (union touched (seenBy (getD us i noTask) u)))
   walk-kept i us touched u l e w =
       record { begun = begun-more ts i us touched u l (w .begun); left = each-kept f noTask u i us l e ∙ w .left }
 

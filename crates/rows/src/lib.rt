@@ -10,7 +10,7 @@ ghost use Rattle.integers.specs.Whole.{eqZ};
 ghost use Rattle.plan.specs.Days.{daysOf};
 ghost use Rattle.plan.specs.Powers.{powersOf};
 ghost use Rattle.rules.specs.Settle.{sameRange, sameTask};
-ghost use Rattle.rows.specs.Changes.{union};
+ghost use Rattle.rows.specs.Changes.{union, sameRanges, seenBy};
 ghost use Rattle.rows.specs.View.{taskOf, tasksOf, noTask, idOf, resourceOf, resourcesOf, noResource};
 use plan::Day;
 use plan::Power;
@@ -189,17 +189,13 @@ fn same_powers(a: PowerSpan, b: PowerSpan) -> bool
     }
 }
 
-pub fn same_task(a: Task, b: Task) -> bool
-    ensures { λ r. ⌜ r ≡ sameTask a b ⌝ }
+fn same_ranges(a: Task, b: Task) -> bool
+    ensures { λ r. ⌜ r ≡ sameRanges a b ⌝ }
 {
-    if a.set == b.set {
-        if same_days(a.origin, b.origin) {
-            if same_days(a.duration, b.duration) {
-                if same_days(a.end, b.end) {
-                    same_powers(a.height, b.height)
-                } else {
-                    false
-                }
+    if same_days(a.origin, b.origin) {
+        if same_days(a.duration, b.duration) {
+            if same_days(a.end, b.end) {
+                same_powers(a.height, b.height)
             } else {
                 false
             }
@@ -211,22 +207,47 @@ pub fn same_task(a: Task, b: Task) -> bool
     }
 }
 
-// What a step says of the list that it changed in place: a plan is left, and the places in the entry sets of the changed tasks.
+pub fn same_task(a: Task, b: Task) -> bool
+    ensures { λ r. ⌜ r ≡ sameTask a b ⌝ }
+{
+    if a.set == b.set {
+        same_ranges(a, b)
+    } else {
+        false
+    }
+}
+
+// The resources that see t become u: where only resources went and more than one is left, those that stay see no change.
+fn seen_by(t: Task, u: Task) -> u64
+    ensures { λ r. ⌜ r ≡ seenBy t u ⌝ }
+{
+    if same_ranges(t, u) {
+        if plan::single_resource(u.set) {
+            t.set
+        } else {
+            t.set ^ u.set
+        }
+    } else {
+        t.set
+    }
+}
+
+// What a step says of the list that it changed in place: a plan is left, and the places that see a changed task.
 pub struct Stepped {
     pub ok: bool,
     pub touched: u64,
 }
 
-// A task put back as u, if that changed it; then its set is noted among the touched.
+// A task put back as u, if that changed it; then the places that see the change are noted among the touched.
 pub fn put_changed(s: &mut [[i64; 9]], i: usize, u: Task, touched: u64) -> u64
     requires { ⌜ i < length (now s) ⌝ }
     ensures after { λ _. ⌜ tasksOf (now (s .exit)) ≡ set (tasksOf (now (s .entry))) i u ⌝ }
-    ensures noted { λ r. ⌜ r ≡ if (sameTask (getD (tasksOf (now (s .entry))) i noTask) u) touched (union touched ((getD (tasksOf (now (s .entry))) i noTask) .set)) ⌝ }
+    ensures noted { λ r. ⌜ r ≡ if (sameTask (getD (tasksOf (now (s .entry))) i noTask) u) touched (union touched (seenBy (getD (tasksOf (now (s .entry))) i noTask) u)) ⌝ }
 {
     let t = task_at(s, i);
     if same_task(t, u) {
         return touched;
     }
     put_task(s, i, u);
-    touched | t.set
+    touched | seen_by(t, u)
 }

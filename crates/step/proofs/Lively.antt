@@ -1,37 +1,19 @@
 -- A task that is not lively: it is sure nowhere, and no bar touches it.
-use mathlib.Core.Path.{_≡_, refl, sym, _∙_, subst}
+use mathlib.Core.Path.{_≡_, refl}
 use mathlib.Core.Bool.{Bool, true, false}
 use mathlib.Core.List.{List}
-use Prim.Native.Nat.{ℕ, zero, suc, _+_, _-_, _*_, _/_, _%_, _^_}
-use native.Mathlib.Nat.{two-pow-succ}
-use native.Mathlib.Omega.{arith}
-use lib.Bits.{bitAnd, and-step}
+use Prim.Native.Nat.{ℕ}
 use lib.IntN.{ℤ}
 use lib.Signed.{leZ, ltZ}
 use Rattle.integers.specs.Tests.{and}
 use Rattle.integers.proofs.Z.{z}
 use Rattle.integers.proofs.Tests.{clash, false-in, and-first, and-second, or-first, or-second}
 use Rattle.plan.specs.declared.Task.{Task}
-use Rattle.plan.specs.Sets.{only}
-use Rattle.plan.proofs.Sets.{only-is, eqb-in}
+use Rattle.plan.specs.Sets.{only, single}
+use Rattle.plan.proofs.Sets.{single-only}
 use Rattle.rules.specs.Step.{running, sure, needed, barred, shut}
 use Rattle.rules.proofs.Quiet.{Quiet}
-use Rattle.step.specs.Least.{single, lively}
-
--- one bit has nothing in common with the bits below it
-bit-below : (r : ℕ) → bitAnd (2 ^ r) (2 ^ r - 1) ≡ 0
-bit-below zero = refl
-bit-below (suc r) =
-    let e = bit-below r in
-    let l = two-pow-succ r in
-    let a : 2 ^ suc r / 2 ≡ 2 ^ r = omega arith in
-    let b : (2 ^ suc r - 1) / 2 ≡ 2 ^ r - 1 = omega arith in
-    let c : 2 ^ suc r % 2 ≡ 0 = omega arith in
-    and-step (2 ^ suc r) (2 ^ suc r - 1) ∙ rw (a, b, c, e) (omega arith)
-
-pub single-only : (s r : ℕ) → only s r ≡ true → single s ≡ true
-unfolding single
-single-only s r h = eqb-in (bitAnd s (s - 1)) 0 (subst (λ (x : ℕ). bitAnd x (x - 1) ≡ 0) (sym (only-is s r h)) (bit-below r))
+use Rattle.step.specs.Least.{lively}
 
 module _ (t : Task) (dull : lively t ≡ false) where
   no-running : ltZ (t .origin .high .0) (t .end .low .0) ≡ false

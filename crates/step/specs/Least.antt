@@ -1,15 +1,13 @@
 -- The least that all stretches leave, which tasks a bar can touch, and whether a task asks for more.
 use mathlib.Core.Bool.{Bool}
 use mathlib.Core.List.{List}
-use Prim.Native.Nat.{ℕ, _-_, _<_}
-use lib.Bits.{bitAnd}
-use lib.Dec.{eqb}
+use Prim.Native.Nat.{ℕ, _<_}
 use lib.ListN.{length, getD}
 use lib.Signed.{_≤ℤ_, ltZ}
 use Rattle.integers.specs.Tests.{if, and, or}
 use Rattle.plan.specs.declared.Task.{Task}
 use Rattle.plan.specs.declared.Power.{Power}
-use Rattle.plan.specs.Sets.{has}
+use Rattle.plan.specs.Sets.{has, single}
 use Rattle.stretches.specs.declared.Stretch.{Stretch}
 use Rattle.stretches.specs.View.{noStretch}
 use Rattle.events.specs.Events.{barOf, liftOf}
@@ -25,10 +23,6 @@ lowered l t = record { slack = lowerOf (l .slack) (t .slack); tight = lowerOf (l
 pub record Under (l : Least) (ss : List Stretch) : Type 0 where
   pub slack : (k : ℕ) → k < length ss → l .slack .0 ≤ℤ getD ss k noStretch .slack .0
   pub tight : (k : ℕ) → k < length ss → l .tight .0 ≤ℤ getD ss k noStretch .tight .0
-
--- a set of one resource, or of none: its lowest bit is its only one
-unfoldable pub single : ℕ → Bool
-single s = eqb (bitAnd s (s - 1)) 0
 
 -- a task that can be sure, or that a bar can touch: "origin high <= i < end low" on some day, or one resource only
 unfoldable pub lively : Task → Bool

@@ -13,7 +13,7 @@ ghost use Rattle.rows.specs.Fits.{AllFit};
 ghost use Rattle.stretches.specs.View.{stretchesOf};
 ghost use Rattle.rules.specs.Calls.{rangesFit};
 ghost use Rattle.step.specs.Asks.{Asks, Roomy, Told};
-ghost use Rattle.step.specs.Least.{lowerOf, lowered, Under, single, lively, canBeBarred, asksMore};
+ghost use Rattle.step.specs.Least.{lowerOf, lowered, Under, lively, canBeBarred, asksMore};
 use plan::Narrowed;
 use plan::Power;
 use plan::Task;
@@ -57,16 +57,6 @@ fn least_of(ss: &[[i64; 4]]) -> Least
     l
 }
 
-// At most one bit: the lowest is the only one.
-fn is_single(set: u64) -> bool
-    ensures { λ b. ⌜ b ≡ single set ⌝ }
-{
-    if set == 0 {
-        return true;
-    }
-    set & (set - 1) == 0
-}
-
 // Whether the task can be sure, or be touched by a bar: it has a day on which it is under way wherever it starts, or one resource only.
 pub fn is_lively(t: Task) -> bool
     ensures { λ b. ⌜ b ≡ lively t ⌝ }
@@ -75,7 +65,7 @@ pub fn is_lively(t: Task) -> bool
     if high.before(t.end.low) {
         return true;
     }
-    is_single(t.set)
+    plan::single_resource(t.set)
 }
 
 // Whether a bar could touch the task where the slack is so low.

@@ -4,7 +4,7 @@ use lib.ListN.{getD, set}
 use Rattle.rules.specs.Settle.{sameTask}
 use mathlib.Core.Path.{_≡_, sym, ap, _∙_}
 use lib.Seq.{set-getD}
-use Rattle.rows.specs.Changes.{union}
+use Rattle.rows.specs.Changes.{union, seenBy}
 use Rattle.rows.specs.View.{tasksOf, noTask}
 use Rattle.rows.proofs.Changes.{same-task-is}
 use borrow.Author.Needs.{needs}
@@ -36,6 +36,9 @@ put-task-requires c κs = search needs
 same-length-2 : tie.Need-same-length-2
 same-length-2 c = search needs
 
+seen-by-requires : tie.Need-seen-by-requires
+seen-by-requires c κs = search needs
+
 returns-2 : tie.Need-returns-2
 unfolding union
 returns-2 c =
@@ -44,7 +47,8 @@ returns-2 c =
     let a = b .before .before .args in
     let t = getD (tasksOf (a .s .now)) (a .i) noTask in
     let h : sameTask t (a .u) ≡ false = rw (b .task-at .ensures) at (sym (k .before .same-task .ensures) ∙ k .if1 .left) in
-    (c .before .before .put-task .ensures, rw (h, b .task-at .ensures))
+    let e : c .seen-by .result ≡ seenBy t (a .u) = rw (b .task-at .ensures) at (c .seen-by .ensures) in
+    (c .before .before .put-task .ensures, rw (h, e))
 
 pub put-changed-spec : {M : Type 1} → statement M
 put-changed-spec =
@@ -55,5 +59,6 @@ put-changed-spec =
     same-length
     returns
     put-task-requires
+    seen-by-requires
     same-length-2
     returns-2)

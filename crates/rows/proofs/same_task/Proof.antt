@@ -1,82 +1,21 @@
--- The set and the four ranges, each only where those before are the same.
-use mathlib.Core.Path.{_≡_, sym, _∙_}
-use mathlib.Core.Bool.{true}
-use lib.Dec.{eqb}
+-- The sets, and the ranges only where the sets are the same.
 use borrow.Author.Tests.{eq-eqb, ne-eqb}
-use Rattle.plan.specs.Days.{daysOf}
-use Rattle.plan.specs.declared.Span.{Span}
-use Rattle.rules.specs.Settle.{sameRange, sameTask}
+use Rattle.rules.specs.Settle.{sameTask}
+use Rattle.rows.specs.Changes.{sameRanges}
 use borrow.Author.Needs.{needs}
 use Rattle.rows.proofs.same_task.Statement.{statement}
 use Rattle.rows.proofs.same_task.Tie as tie
 
-abbrev same : Span → Span → Type 0
-same a b = sameRange (daysOf a) (daysOf b) ≡ true
-
--- what holds within each branch
-sets : (c : tie.Then1) → eqb (c .before .before .before .args .a .set) (c .before .before .before .args .b .set) ≡ true
-sets c = eq-eqb _ _ (c .if1 .taken)
-
-origins : (c : tie.Then2) → same (c .before .before .before .before .before .args .a .origin) (c .before .before .before .before .before .args .b .origin)
-origins c = sym (c .before .same-days .ensures) ∙ c .if2 .taken
-
-durations : (c : tie.Then3) → same (c .before .before .before .before .before .before .before .args .a .duration) (c .before .before .before .before .before .before .before .args .b .duration)
-durations c = sym (c .before .same-days2 .ensures) ∙ c .if3 .taken
-
-ends : (c : tie.Then4) → same (c .before .before .before .before .before .before .before .before .before .args .a .end) (c .before .before .before .before .before .before .before .before .before .args .b .end)
-ends c = sym (c .before .same-days3 .ensures) ∙ c .if4 .taken
-
-same-days-requires : tie.Need-same-days-requires
-same-days-requires c κs = search needs
-
-same-days-requires-2 : tie.Need-same-days-requires-2
-same-days-requires-2 c κs = search needs
-
-same-days-requires-3 : tie.Need-same-days-requires-3
-same-days-requires-3 c κs = search needs
-
-same-powers-requires : tie.Need-same-powers-requires
-same-powers-requires c κs = search needs
+same-ranges-requires : tie.Need-same-ranges-requires
+same-ranges-requires c κs = search needs
 
 returns : tie.Need-returns
-unfolding sameTask
-returns c =
-    let d = c .before in
-    let e = d .before .before in
-    let f = e .before .before in
-    simp (sets (f .before .before), origins f, durations e, ends d, c .same-powers .ensures)
+unfolding sameTask sameRanges
+returns c = simp (eq-eqb _ _ (c .before .if1 .taken), c .same-ranges .ensures)
 
 returns-2 : tie.Need-returns-2
 unfolding sameTask
-returns-2 c =
-    let e = c .before .before in
-    let f = e .before .before in
-    simp (sets (f .before .before), origins f, durations e, sym (c .before .same-days3 .ensures) ∙ c .if4 .left)
-
-returns-3 : tie.Need-returns-3
-unfolding sameTask
-returns-3 c =
-    let f = c .before .before in
-    simp (sets (f .before .before), origins f, sym (c .before .same-days2 .ensures) ∙ c .if3 .left)
-
-returns-4 : tie.Need-returns-4
-unfolding sameTask
-returns-4 c = simp (sets (c .before .before), sym (c .before .same-days .ensures) ∙ c .if2 .left)
-
-returns-5 : tie.Need-returns-5
-unfolding sameTask
-returns-5 c = simp (ne-eqb _ _ (c .if1 .left))
+returns-2 c = simp (ne-eqb _ _ (c .if1 .left))
 
 pub same-task-spec : {M : Type 1} → statement M
-same-task-spec =
-    tie.close
-    (tie.spec
-    same-days-requires
-    same-days-requires-2
-    same-days-requires-3
-    same-powers-requires
-    returns
-    returns-2
-    returns-3
-    returns-4
-    returns-5)
+same-task-spec = tie.close (tie.spec same-ranges-requires returns returns-2)

@@ -12,12 +12,12 @@ returns : tie.Need-returns
 unfolding lively
 returns c = rw (sym (c .before .before2 .ensures) ∙ c .if1 .taken)
 
-is-single-requires : tie.Need-is-single-requires
-is-single-requires c κs = search needs
+single-resource-requires : tie.Need-single-resource-requires
+single-resource-requires c κs = search needs
 
 returns-2 : tie.Need-returns-2
 unfolding lively
-returns-2 c = rw (sym (c .before .before .before2 .ensures) ∙ c .before .if1 .left) (c .is-single .ensures)
+returns-2 c = rw (sym (c .before .before .before2 .ensures) ∙ c .before .if1 .left) (c .single-resource .ensures)
 
 pub is-lively-spec : {M : Type 1} → statement M
-is-lively-spec = tie.close (tie.spec before-requires returns is-single-requires returns-2)
+is-lively-spec = tie.close (tie.spec before-requires returns single-resource-requires returns-2)
