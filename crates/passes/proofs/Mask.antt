@@ -70,6 +70,14 @@ module _ (r : ℕ) (t u : Task) (sub : (k : ℕ) → has (u .set) k ≡ true →
   abbrev lost : Bool
   lost = and (sameRanges t u) (not (single (u .set)))
 
+  seen-lost : lost ≡ true → has (differing (t .set) (u .set)) r ≡ false
+  unfolding seenBy
+  seen-lost e = rw e at unseen
+
+  seen-all : lost ≡ false → has (t .set) r ≡ false
+  unfolding seenBy
+  seen-all e = rw e at unseen
+
   unseen-is : Unseen r t u
   unseen-is =
       by-cases lost
@@ -98,14 +106,6 @@ module _ (r : ℕ) (t u : Task) (sub : (k : ℕ) → has (u .set) k ≡ true →
       }))
       (λ h. not-there h (sym eq ∙ h)))
       (λ e. let h = seen-all e in not-there h (false-in (has (u .set) r) (λ q. clash (has (t .set) r) (sub r q) h)))
-    where
-      seen-lost : lost ≡ true → has (differing (t .set) (u .set)) r ≡ false
-      unfolding seenBy
-      seen-lost e = rw e at unseen
-
-      seen-all : lost ≡ false → has (t .set) r ≡ false
-      unfolding seenBy
-      seen-all e = rw e at unseen
 
 -- ---- a change seen from a place that sees none of the changed tasks change
 beside-of : (r : ℕ) {us ts : List Task} → Subs us ts → Lives us → has (touchedBy ts us) r ≡ false → Beside r ts us

@@ -28,6 +28,7 @@ only-is s k = eqb-true s (2 ^ k)
 pub only-in : (s k : ℕ) → s ≡ 2 ^ k → only s k ≡ true
 unfolding only
 only-in s k = eqb-in s (2 ^ k)
+
 -- one bit has nothing in common with the bits below it
 bit-below : (r : ℕ) → bitAnd (2 ^ r) (2 ^ r - 1) ≡ 0
 bit-below zero = refl
