@@ -50,39 +50,6 @@ same-powers a b h =
 
 -- the same ranges, one by one
 module _ (t u : Task) (h : sameRanges t u ≡ true) where
-<<<<<<< HEAD
-  abbrev o : Bool
-  o = sameRange (daysOf (t .origin)) (daysOf (u .origin))
-
-  abbrev d : Bool
-  d = sameRange (daysOf (t .duration)) (daysOf (u .duration))
-
-  abbrev e : Bool
-  e = sameRange (daysOf (t .end)) (daysOf (u .end))
-
-  abbrev p : Bool
-  p = sameRange (powersOf (t .height)) (powersOf (u .height))
-
-  pub same-origin : t .origin ≡ u .origin
-  unfolding sameRanges
-  same-origin = same-days (t .origin) (u .origin) (and-first o (and d (and e p)) h)
-
-  past-origin : and d (and e p) ≡ true
-  unfolding sameRanges
-  past-origin = and-second o (and d (and e p)) h
-
-  pub same-duration : t .duration ≡ u .duration
-  same-duration = same-days (t .duration) (u .duration) (and-first d (and e p) past-origin)
-
-  past-duration : and e p ≡ true
-  past-duration = and-second d (and e p) past-origin
-
-  pub same-end : t .end ≡ u .end
-  same-end = same-days (t .end) (u .end) (and-first e p past-duration)
-
-  pub same-height : t .height ≡ u .height
-  same-height = same-powers (t .height) (u .height) (and-second e p past-duration)
-=======
   abbrev origins : Bool
   origins = sameRange (daysOf (t .origin)) (daysOf (u .origin))
 
@@ -114,7 +81,6 @@ module _ (t u : Task) (h : sameRanges t u ≡ true) where
 
   pub same-height : t .height ≡ u .height
   same-height = same-powers (t .height) (u .height) (and-second ends heights past-duration)
->>>>>>> 4eb09fa63fe9f30584b41c604e8a26b06fbdb875
 
   -- and so the task, where its set is the same too
   same-but-set : t .set ≡ u .set → t ≡ u
