@@ -1,5 +1,4 @@
--- The mask stays right: a step changes only tasks that could stand where it is taken, and no resource sees more of the change than the
--- places that are noted as touched.
+-- The mask stays right: a step changes only tasks that could stand where it is taken, and only the places noted as touched see the change.
 use mathlib.Core.Path.{_≡_, refl, sym, ap, ap₂, _∙_, subst}
 use mathlib.Core.Bool.{Bool, true, false, not}
 use mathlib.Core.List.{List, [], _∷_}
@@ -16,12 +15,12 @@ use Rattle.plan.specs.declared.Task.{Task}
 use Rattle.plan.specs.declared.Power.{Power}
 use Rattle.plan.specs.declared.Resource.{Resource}
 use Rattle.plan.specs.declared.Narrowed.{Narrowed}
-use Rattle.plan.specs.declared.Narrowed.the-variants.{Kept, RanOut}
+use Rattle.plan.specs.declared.Narrowed.the-variants.{Kept}
 use Rattle.plan.specs.declared.Sense.the-variants.{AtLeast}
 use Rattle.plan.specs.Sets.{has, only, single, without}
 use Rattle.plan.proofs.Sets.{without-keeps, eqb-true, eqb-in, only-is, only-in, alone-only, single-only}
 use Rattle.rules.specs.Allowed.{limitOn}
-use Rattle.rules.specs.Balance.{Outcome, andThen, each, balance}
+use Rattle.rules.specs.Balance.{Outcome, each, balance}
 use Rattle.rules.specs.Balance.Outcome.{NoPlan, Plan}
 use Rattle.rules.specs.Step.{shortfall, narrowed, listedDays, atLeastStep, resourceStep}
 use Rattle.rules.specs.Settle.{sameTask, sameTasks}

@@ -14,7 +14,7 @@ has s (suc k) = has (s / 2) k
 unfoldable pub only : ℕ → ℕ → Bool
 only s k = eqb s (2 ^ k)
 
--- a set of one resource, or of none: its lowest bit is its only one
+-- a set of one resource, or of none: nothing is left without its lowest bit
 unfoldable pub single : ℕ → Bool
 single s = eqb (bitAnd s (s - 1)) 0
 

@@ -21,7 +21,7 @@ outcomeOf false ts = NoPlan
 unfoldable pub union : ℕ → ℕ → ℕ
 union a b = bitOr a b
 
--- the places of one of two sets but not of the other (the law `differing-has`)
+-- the places of one of two sets but not of the other: where it has none, they agree (the law `differing-has`)
 unfoldable pub differing : ℕ → ℕ → ℕ
 differing a b = bitXor a b
 

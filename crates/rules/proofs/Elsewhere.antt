@@ -1,5 +1,5 @@
--- A change elsewhere does not concern r: where the step of r changes nothing on ts, it changes nothing on ts with some tasks replaced,
--- if none of those has r in its set, before or after, or only other resources left a set that still has r and another one.
+-- A change elsewhere does not concern r: where the step of r changes nothing on ts, it changes nothing on ts with some tasks replaced, if
+-- each of those has r neither before nor after, or looks the same to r: only other resources left its set, which has r and another one.
 use mathlib.Core.Path.{_≡_, refl, sym, ap, ap₂, _∙_, subst}
 use Prim.Native.Nat.{ℕ, _^_}
 use native.Mathlib.Omega.{arith}
@@ -10,7 +10,7 @@ use lib.Signed.{leZ, ltZ}
 use Rattle.integers.specs.Tests.{if, and, or, implies, all, any}
 use Rattle.integers.specs.Sums.{sumOf}
 use Rattle.integers.specs.Hull.{Range, hull, values, left}
-use Rattle.integers.proofs.Tests.{clash, by-cases, if-case, false-in, same-test, and-first, and-second, not-out, not-any, or-left, all-in, any-none, filter-same}
+use Rattle.integers.proofs.Tests.{clash, if-case, same-test, not-out, not-any, all-in, any-none, filter-same}
 use Rattle.plan.specs.declared.Task.{Task}
 use Rattle.plan.specs.declared.Narrowed.{Narrowed}
 use Rattle.plan.specs.declared.Narrowed.the-variants.{Kept, RanOut}
@@ -21,14 +21,9 @@ use Rattle.plan.specs.Sets.{has, only, without}
 use Rattle.rules.specs.Balance.{Outcome, andThen, each}
 use Rattle.rules.specs.Balance.Outcome.{NoPlan, Plan}
 use Rattle.rules.specs.Step.{possible, running, sure, hope, total, others, counts, shortfall, needed, barred, shut, keepsOrigin, keepsDuration, keepsEnd, keepsHeight, neededSet, keptSet, narrowed, listedDays, atLeastStep, resourceStep}
-use Rattle.rules.specs.Settle.{sameTask}
 use Rattle.rules.proofs.Days.{In, every-day}
 use Rattle.rules.proofs.Days.In.{head, tail}
 use Rattle.rules.proofs.Live.{Live, Lives}
-use Rattle.rules.proofs.Live.Lives.{no-lives, more-lives}
-use Rattle.rules.proofs.Subs.{Subs}
-use Rattle.rules.proofs.Subs.Subs.{no-subs, more-subs}
-use Rattle.rules.proofs.Rooms.{same-task-is}
 use Rattle.rules.proofs.Shrinks.{Shrunk, resource-step-shrunk}
 use Rattle.rules.proofs.Quiet.{narrowed-quiet, possible-away, sure-away, narrowed-away}
 use Rattle.rules.proofs.Sets.{kept-set-is, no-need-spoke, no-bar-spoke}
@@ -46,31 +41,12 @@ pub record Alike (r : ℕ) (t u : Task) : Type 0 where
   pub shared : only (t .set) r ≡ false
   pub shares : only (u .set) r ≡ false
 
--- us is ts with some tasks replaced, none of which has r in its set or looks another to r; what replaces is not empty
+-- us is ts with some tasks replaced: each has r neither before nor after, or looks the same to r; what replaces is not empty
 pub data Beside (r : ℕ) : List Task → List Task → Type 0 where
   no-tasks : Beside r [] []
   same-task : {t : Task} {ts us : List Task} → Beside r ts us → Beside r (t ∷ ts) (t ∷ us)
   other-task : {t u : Task} {ts us : List Task} → has (t .set) r ≡ false → has (u .set) r ≡ false → Live u → Beside r ts us → Beside r (t ∷ ts) (u ∷ us)
   other-set : {t u : Task} {ts us : List Task} → Alike r t u → Live u → Beside r ts us → Beside r (t ∷ ts) (u ∷ us)
-
--- as a test, on what a step left: each task is as it was, or did not have r
-unfoldable pub besideTest : ℕ → List Task → List Task → Bool
-besideTest r [] [] = true
-besideTest r [] (u ∷ us) = false
-besideTest r (t ∷ ts) [] = false
-besideTest r (t ∷ ts) (u ∷ us) = and (or (sameTask t u) (not (has (t .set) r))) (besideTest r ts us)
-
-pub beside-is : (r : ℕ) {ts us : List Task} → Subs us ts → Lives us → besideTest r ts us ≡ true → Beside r ts us
-unfolding besideTest
-beside-is r no-subs no-lives h = no-tasks
-beside-is r (more-subs {u} {t} {us} {ts} s f) (more-lives l k) h =
-    let rest = beside-is r f k (and-second (or (sameTask t u) (not (has (t .set) r))) (besideTest r ts us) h) in
-    by-cases (sameTask t u)
-    (λ e. subst (λ v. Beside r (t ∷ ts) (v ∷ us)) (same-task-is t u e) (same-task rest))
-    (λ e.
-    let away : has (t .set) r ≡ false =
-    not-out (has (t .set) r) (sym (or-left (sameTask t u) (not (has (t .set) r)) e) ∙ and-first (or (sameTask t u) (not (has (t .set) r))) (besideTest r ts us) h) in
-    other-task away (false-in (has (u .set) r) (λ g. clash (has (t .set) r) (s .set r g) away)) l rest)
 
 -- ---- what the rules of r read of the list stays
 hope-away : (r : ℕ) (t : Task) → has (t .set) r ≡ false → (i : ℤ) → hope r i t ≡ pos 0

@@ -1,14 +1,14 @@
 -- What a step can make of a task's set: it stays as it was, becomes r alone, or loses r.
-use mathlib.Core.Path.{_≡_, refl, sym, _∙_, subst}
+use mathlib.Core.Path.{_≡_, refl, _∙_, subst}
 use mathlib.Core.Bool.{Bool, true, false}
 use mathlib.Core.List.{List}
 use Prim.Native.Nat.{ℕ, _^_}
 use lib.Dec.{eqb}
 use lib.IntN.{ℤ}
-use Rattle.integers.specs.Tests.{if, and, any}
+use Rattle.integers.specs.Tests.{and, any}
 use Rattle.integers.specs.Hull.{Range, Left, left}
 use Rattle.integers.specs.Hull.Left.{Nothing, Some}
-use Rattle.integers.proofs.Tests.{clash, by-cases, false-in, if-case}
+use Rattle.integers.proofs.Tests.{clash, false-in, if-case}
 use Rattle.plan.specs.declared.Task.{Task}
 use Rattle.plan.specs.declared.Narrowed.{Narrowed}
 use Rattle.plan.specs.declared.Narrowed.the-variants.{Kept, RanOut}
@@ -16,7 +16,7 @@ use Rattle.plan.specs.declared.Value.{Value}
 use Rattle.plan.specs.declared.Value.the-variants.{Origin, Duration, End, Height, Set}
 use Rattle.plan.specs.Days.{daysOf}
 use Rattle.plan.specs.Powers.{powersOf}
-use Rattle.plan.specs.Sets.{has, only, without}
+use Rattle.plan.specs.Sets.{has, only}
 use Rattle.plan.proofs.Sets.{only-in, without-out}
 use Rattle.rules.specs.Step.{orRanOut, running, needed, barred, keepsOrigin, keepsDuration, keepsEnd, keepsHeight, neededSet, keptSet, narrowed}
 
@@ -43,7 +43,7 @@ module _ (r : ℕ) (limit : ℤ → ℤ) (ts : List Task) (days : List ℤ) (t :
   pub kept-set-is : (u : Task) → narrowed r limit ts days t ≡ Kept u → u .set ≡ keptSet r limit ts days t
   kept-set-is u e = subst (SetIs (keptSet r limit ts days t)) e narrowed-set
 
-  -- r is still in the set, beside another resource: no need and no bar spoke
+  -- r is still in the set, beside another resource: no need spoke, and no bar took r
   module _ (h : has (keptSet r limit ts days t) r ≡ true) (o : only (keptSet r limit ts days t) r ≡ false) where
     abbrev bars : Bool
     bars = any (λ i. and (barred r limit ts t i) (running r i t)) days
