@@ -10,10 +10,9 @@ use Rattle.plan.specs.declared.Resource.{Resource}
 use Rattle.plan.specs.declared.Task.{Task}
 use Rattle.plan.specs.Powers.{powerFits}
 use Rattle.rows.specs.View.{tasksOf, resourcesOf, noTask, noResource}
-use Rattle.rows.proofs.View.{length-resources}
 use Rattle.rows.proofs.Fits.{Accepts, accepts}
 use Rattle.passes.specs.Facing.{resourcesFacing}
-use Rattle.passes.proofs.Facing.{length-facing}
+use Rattle.passes.proofs.Room.{place-inside, place-small}
 use Rattle.passes.proofs.Mask.{limited, fits-wide}
 use Rattle.passes.proofs.resource_step.Statement.{statement}
 use Rattle.passes.proofs.resource_step.Tie as tie
@@ -28,12 +27,7 @@ known : (c : tie.Start) → Accepts (qs c) (ts c)
 known c = accepts (qs c) (ts c) (c .pre .0 .1)
 
 inside : (c : tie.Start) → c .args .r < length (qs c)
-inside c =
-    let h = c .pre .0 .0 in
-    omega (arith, length-facing (c .args .sense) (resourcesOf (c .args .q .now)), length-resources (c .args .q .now))
-
-small : (c : tie.Start) → c .args .r < 64
-small c = let h = inside c in let l = known c .most in omega arith
+inside c = place-inside (c .args .sense) (c .args .q .now) (c .args .r) (c .pre .0 .0)
 
 limit-facing-requires : tie.Need-limit-facing-requires
 limit-facing-requires c κs =
@@ -50,7 +44,7 @@ step-requires c κs =
     let b = c .before .before .before .before .before .before .before in
     let k = known b in (
       record {
-        place = small b;
+        place = place-small (qs b) (ts b) (b .args .r) (b .pre .0 .1) (inside b);
         few = k .few;
         fit = λ j l. fits-wide (length (qs b)) (getD (ts b) j noTask) (omega (arith, k .most)) (k .tasks noTask j l);
         limited = limit-fits (c .before .before .before .before);

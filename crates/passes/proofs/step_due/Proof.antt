@@ -1,6 +1,5 @@
 -- A resource's step is taken where its bit is set; where it is clear, the step would change nothing.
 use borrow.Author.Needs.{needs}
-use native.Mathlib.Omega.{arith}
 use mathlib.Core.Path.{_≡_, sym, ap, _∙_}
 use mathlib.Core.Bool.{Bool, false}
 use mathlib.Core.List.{List}
@@ -14,10 +13,8 @@ use Rattle.rules.specs.Step.{atLeastStep}
 use Rattle.rules.specs.Balance.Outcome.{Plan}
 use Rattle.rows.specs.View.{tasksOf, resourcesOf, noResource}
 use Rattle.rows.specs.Changes.{outcomeOf, union}
-use Rattle.rows.proofs.View.{length-resources}
-use Rattle.rows.proofs.Fits.{Accepts, accepts}
 use Rattle.passes.specs.Facing.{resourcesFacing}
-use Rattle.passes.proofs.Facing.{length-facing}
+use Rattle.passes.proofs.Room.{place-inside, place-small}
 use Rattle.passes.proofs.Mask.{step-keeps, step-noted, unchanged-noted}
 use Rattle.passes.proofs.step_due.Statement.{statement}
 use Rattle.passes.proofs.step_due.Tie as tie
@@ -28,16 +25,11 @@ qs c = resourcesFacing (c .args .sense) (resourcesOf (c .args .q .now))
 abbrev ts : tie.Start → List Task
 ts c = tasksOf (c .args .s .now)
 
-known : (c : tie.Start) → Accepts (qs c) (ts c)
-known c = accepts (qs c) (ts c) (c .pre .0 .2)
-
 inside : (c : tie.Start) → c .args .r < length (qs c)
-inside c =
-    let h = c .pre .0 .0 in
-    omega (arith, length-facing (c .args .sense) (resourcesOf (c .args .q .now)), length-resources (c .args .q .now))
+inside c = place-inside (c .args .sense) (c .args .q .now) (c .args .r) (c .pre .0 .0)
 
 small : (c : tie.Start) → c .args .r < 64
-small c = let h = inside c in let l = known c .most in omega arith
+small c = place-small (qs c) (ts c) (c .args .r) (c .pre .0 .2) (inside c)
 
 has-resource-requires : tie.Need-has-resource-requires
 has-resource-requires c κs = small (c .before .before)
