@@ -10,7 +10,7 @@
 enum { STACK = 1 << 20, PAINT = 0x5a };
 
 struct work {
-    uint8_t file[9382], out[9382];
+    uint8_t file[GRISTWALTZ_LONGEST_FILE], out[GRISTWALTZ_LONGEST_FILE];
     size_t length;
     unsigned calls;
     char call;

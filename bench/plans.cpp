@@ -39,7 +39,7 @@ Task task(unsigned set, Range origin, Range duration, Range height) {
 
 // ---- limits that bite: what a schedule inside the ranges just keeps
 
-Range turned(Range height) { return {-height.high, -height.low}; }
+Range negated(Range height) { return {-height.high, -height.low}; }
 
 // The levels of one schedule, sense at least, day by day on each resource.
 class Levels {
@@ -90,7 +90,7 @@ void schedule(Random &random, Levels &levels, const Task &t) {
 void set_limits(Random &random, Plan &plan) {
   std::vector<Task> tasks = plan.tasks;
   if (!plan.at_least)
-    for (Task &t : tasks) t.height = turned(t.height);
+    for (Task &t : tasks) t.height = negated(t.height);
   std::stable_sort(tasks.begin(), tasks.end(), [](const Task &a, const Task &b) { return a.height.high > b.height.high; });
   Levels levels(tasks);
   for (const Task &t : tasks) schedule(random, levels, t);

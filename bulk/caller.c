@@ -9,8 +9,10 @@
 long read(int from, void *to, unsigned long count);
 long write(int to, const void *from, unsigned long count);
 
+/* the calls, numbered as bulk/src/engine.rs sends them */
 enum { SETTLE, CHECK, BALANCE, STEP };
-enum { ROOM = 16384 };
+/* more than the longest file with a margin on either side; a longer request is refused */
+enum { ROOM = 2 * GRISTWALTZ_LONGEST_FILE };
 
 struct request {
     uint64_t call, place, file_len, memory_len, margin;

@@ -22,6 +22,9 @@
 extern "C" {
 #endif
 
+/* The bytes of the longest plan file: room in `out` for any. */
+#define GRISTWALTZ_LONGEST_FILE 9382
+
 /* Settles the plan and writes the settled plan's file to `out`: the answer is the number of passes, or the refusal. */
 uint64_t gristwaltz_settle(const uint8_t *file, size_t file_len, uint8_t *out, size_t out_len);
 

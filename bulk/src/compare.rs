@@ -1,10 +1,10 @@
 //! One plan file, every call: the engine's answer and buffers against what the second program says.
 
-use crate::expected::{read, said, Said};
-use crate::library::{self, Call, Library};
+use crate::engine::{Answer, Call, Engine};
+use crate::expected::Expected;
 use crate::tally::{Kind, Tally};
 use second::random::Random;
-use second::{allowed, words, Fault, Plan};
+use second::{allowed, file, words, Fault, Plan, Refusal};
 
 /// Bytes kept on either side of a lent buffer, to see that nothing beyond it is written.
 const MARGIN: usize = 16;
@@ -21,53 +21,44 @@ pub struct Difference {
     pub text: String,
 }
 
-/// What comparing needs beside the plan: a fault for the second program, counts, the engine, and memory used again and again.
-pub struct Bench {
-    pub fault: Option<Fault>,
+/// The two sides: the second program's fault, the engine, and memory lent to it again and again; and how often they were compared.
+pub struct Comparison {
+    fault: Option<Fault>,
     pub tally: Tally,
-    library: Library,
+    engine: Engine,
+    /// An output buffer with a margin on either side.
     memory: Vec<u8>,
-    before: Vec<u8>,
+    /// What the memory has to hold after the call.
+    due: Vec<u8>,
 }
 
-impl Bench {
-    pub fn new(fault: Option<Fault>) -> Bench {
-        Bench {
+impl Comparison {
+    pub fn new(fault: Option<Fault>) -> Comparison {
+        Comparison {
             fault,
             tally: Tally::default(),
-            library: Library::open(),
+            engine: Engine::open(),
             memory: Vec::new(),
-            before: Vec::new(),
+            due: Vec::new(),
         }
     }
 
     /// Compares every call on this file.
     pub fn compare(&mut self, file: &[u8], random: &mut Random) -> Result<(), Difference> {
-        let plan = read(file);
+        let plan = file::read(file);
         self.tally.plans += 1;
-        let settled = said(Call::Settle, &plan, self.fault);
-        self.tally
-            .count_answer(library::refusal_number(settled.answer));
-        self.exact(Kind::Settle, Call::Settle, file, &settled)?;
-        self.exact(
-            Kind::Check,
-            Call::Check,
-            file,
-            &said(Call::Check, &plan, None),
-        )?;
-        let balanced = said(Call::Balance, &plan, None);
-        self.exact(Kind::Balance, Call::Balance, file, &balanced)?;
-        let mut tried = vec![(Call::Settle, settled), (Call::Balance, balanced)];
-        // Every place, and one beyond; of a damaged file, any place.
-        let places = plan.as_ref().map_or(0, |plan| plan.resources.len());
-        for place in 0..=places {
-            let step = Call::Step(place);
-            let stepped = said(step, &plan, self.fault);
-            self.exact(Kind::Step, step, file, &stepped)?;
-            tried.push((step, stepped));
+        let mut writing = Vec::new();
+        for call in calls(&plan) {
+            let expected = Expected::of(call, &plan, self.fault);
+            self.tally.count_call(call, expected.answer);
+            let room = if call.writes() { file.len() } else { 0 };
+            self.compare_call(file, room, &expected)?;
+            if call.writes() {
+                writing.push(expected);
+            }
         }
-        let (call, said) = &tried[random.place(tried.len())];
-        self.other_rooms(*call, file, said, random)?;
+        let expected = &writing[random.place(writing.len())];
+        self.other_buffers(file, expected, random)?;
         match plan {
             Ok(plan) if self.fault.is_none() && random.one_in(LISTED_ONE_IN) => {
                 self.listed(&plan, file, random)
@@ -76,62 +67,48 @@ impl Bench {
         }
     }
 
-    /// An output buffer of exactly the file's length.
-    fn exact(
-        &mut self,
-        kind: Kind,
-        call: Call,
-        file: &[u8],
-        said: &Said,
-    ) -> Result<(), Difference> {
-        self.tally.count(kind);
-        let room = if call == Call::Check { 0 } else { file.len() };
-        self.call(call, file, room, said)
-    }
-
     /// A longer buffer, and a shorter one.
-    fn other_rooms(
+    fn other_buffers(
         &mut self,
-        call: Call,
         file: &[u8],
-        said: &Said,
+        expected: &Expected,
         random: &mut Random,
     ) -> Result<(), Difference> {
         self.tally.count(Kind::LongerBuffer);
-        let longer = file.len() + random.within(1, 60) as usize;
-        self.call(call, file, longer, said)?;
+        let longer = file.len() + random.count(1, 60);
+        self.compare_call(file, longer, expected)?;
         if file.is_empty() {
             return Ok(());
         }
         self.tally.count(Kind::ShorterBuffer);
         let any = random.place(file.len());
         let shorter = random.pick(&[0, file.len() - 1, any]);
-        self.call(call, file, shorter, &said.with_room(shorter, file, call))
+        self.compare_call(file, shorter, &expected.with_shorter_buffer())
     }
 
     /// One call with an output buffer of `room` bytes, all of the memory around it watched.
-    fn call(
+    fn compare_call(
         &mut self,
-        call: Call,
         file: &[u8],
         room: usize,
-        said: &Said,
+        expected: &Expected,
     ) -> Result<(), Difference> {
         self.fill(room + 2 * MARGIN);
-        let answer = self.library.call(call, file, &mut self.memory, MARGIN);
-        if let Some(written) = &said.written {
-            self.before[MARGIN..MARGIN + written.len()].copy_from_slice(written);
+        let call = expected.call;
+        let answer = self.engine.call(call, file, &mut self.memory, MARGIN);
+        if let Some(written) = &expected.written {
+            self.due[MARGIN..MARGIN + written.len()].copy_from_slice(written);
         }
-        if answer == said.answer && self.memory == self.before {
+        if answer == expected.answer && self.memory == self.due {
             return Ok(());
         }
-        Err(self.difference(call, file, room, said, answer))
+        Err(self.difference(file, room, expected, answer))
     }
 
-    /// A pattern in the memory, and the same beside it for later.
+    /// A pattern in the memory, and the same in what is due.
     fn fill(&mut self, length: usize) {
         let pattern = |place: usize| (place * 151 + 90) as u8;
-        for memory in [&mut self.memory, &mut self.before] {
+        for memory in [&mut self.memory, &mut self.due] {
             memory.clear();
             memory.extend((0..length).map(pattern));
         }
@@ -139,30 +116,27 @@ impl Bench {
 
     fn difference(
         &self,
-        call: Call,
         file: &[u8],
         room: usize,
-        said: &Said,
-        answer: u64,
+        expected: &Expected,
+        answer: Answer,
     ) -> Difference {
+        let call = expected.call;
         let mut text = format!(
             "{call:?} with {room} bytes of room for a file of {}:\n  the engine says: {}\n  the second program says: {}\n",
             file.len(),
-            library::words(call, answer),
-            library::words(call, said.answer)
+            answer.words(call),
+            expected.answer.words(call)
         );
-        if answer == said.answer {
+        if answer == expected.answer {
             let place =
-                (0..self.memory.len()).find(|place| self.memory[*place] != self.before[*place]);
+                (0..self.memory.len()).find(|place| self.memory[*place] != self.due[*place]);
             let byte = place.unwrap_or(0) as i64 - MARGIN as i64;
-            text += &format!("  the output differs first at byte {byte}\n");
+            let output = MARGIN..MARGIN + room.min(file.len());
             text += &format!(
-                "the engine's output:\n{}",
-                plan_words(&self.memory[MARGIN..MARGIN + room.min(file.len())])
-            );
-            text += &format!(
-                "the second program's output:\n{}",
-                plan_words(&self.before[MARGIN..MARGIN + room.min(file.len())])
+                "  the output differs first at byte {byte}\nthe engine's output:\n{}the second program's output:\n{}",
+                file_words(&self.memory[output.clone()]),
+                file_words(&self.due[output])
             );
         }
         Difference {
@@ -173,63 +147,65 @@ impl Bench {
 
     /// The engine's steps in a random order, each on the output of the one before: no step changes the number of allowed plans.
     fn listed(&mut self, plan: &Plan, file: &[u8], random: &mut Random) -> Result<(), Difference> {
-        let (values, plans) = allowed::listing_size(plan);
-        if values.max(plans) > MOST_LISTED {
+        if allowed::listing_size(plan).most() > MOST_LISTED {
             return Ok(());
         }
         let count = allowed::count(plan).expect("the plan was read");
-        let mut now = file.to_vec();
+        let mut before = file.to_vec();
         for _ in 0..LISTED_STEPS {
             let step = match random.within(0, 4) {
                 0 => Call::Settle,
                 1 => Call::Balance,
                 _ => Call::Step(random.place(plan.resources.len())),
             };
-            let mut next = vec![0; now.len()];
-            let answer = self.library.call(step, &now, &mut next, 0);
-            let none_left = answer == library::refusal(7, 0);
-            let left = match (none_left, read(&next)) {
-                (true, _) => 0,
-                (false, Ok(after)) if next == now && after.tasks.len() == plan.tasks.len() => count,
-                (false, Ok(after)) => allowed::count(&after).expect("the plan was read"),
-                (false, Err(_)) => u64::MAX,
+            let mut after = vec![0; before.len()];
+            let answer = self.engine.call(step, &before, &mut after, 0);
+            let no_plan = answer == Answer::refused(Refusal::NO_PLAN);
+            let left = match file::read(&after) {
+                _ if no_plan => Some(0),
+                Ok(_) if after == before => Some(count),
+                Ok(plan) => allowed::count(&plan).ok(),
+                Err(_) => None,
             };
             self.tally.count(Kind::Listing);
-            if left != count {
-                return Err(lost(step, answer, &now, count, left));
+            if left != Some(count) {
+                return Err(lost(step, answer, before, count, left));
             }
-            if none_left {
+            if no_plan {
                 return Ok(());
             }
-            now = next;
+            before = after;
         }
         Ok(())
     }
 }
 
-fn lost(step: Call, answer: u64, file: &[u8], count: u64, left: u64) -> Difference {
+/// Every call; the resource step for every place, one beyond and two far beyond (of a damaged file, any place): one whose lowest 32 bits
+/// name the first resource, and the last that a host can ask for.
+fn calls(plan: &Result<Plan, Refusal>) -> impl Iterator<Item = Call> {
+    let places = plan.as_ref().map_or(0, |plan| plan.resources.len());
+    let beyond = [1 << 32, usize::MAX];
+    let steps = (0..=places).chain(beyond).map(Call::Step);
+    [Call::Settle, Call::Check, Call::Balance]
+        .into_iter()
+        .chain(steps)
+}
+
+/// A step that changed the number of allowed plans; none are left of an output that is no plan.
+fn lost(step: Call, answer: Answer, file: Vec<u8>, count: u64, left: Option<u64>) -> Difference {
     let after = match left {
-        u64::MAX => "the output is no plan".to_string(),
-        _ => format!("{left} after it"),
+        None => "the output is no plan".to_string(),
+        Some(left) => format!("{left} after it"),
     };
-    Difference {
-        file: file.to_vec(),
-        text: format!(
-            "{step:?} by the engine ({}): {count} allowed plans before, {after}\n",
-            library::words(step, answer)
-        ),
-    }
+    let said = answer.words(step);
+    let text = format!("{step:?} by the engine ({said}): {count} allowed plans before, {after}\n");
+    Difference { file, text }
 }
 
 /// A plan file in words, or why it is none.
-pub fn plan_words(file: &[u8]) -> String {
-    match read(file) {
-        Ok(plan) => words::words(&plan),
-        Err(refused) => format!(
-            "no plan file: refused {} {} ({} bytes)\n",
-            refused.number,
-            refused.place,
-            file.len()
-        ),
+pub fn file_words(file: &[u8]) -> String {
+    match file::read(file) {
+        Ok(plan) => words::of_plan(&plan),
+        Err(refusal) => format!("no plan file: {refusal} ({} bytes)\n", file.len()),
     }
 }

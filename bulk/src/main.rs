@@ -1,14 +1,14 @@
 //! Compares the engine with the second program on fresh random plans until the time is up or they differ.
 
 mod compare;
+mod engine;
 mod expected;
-mod library;
 mod plans;
 mod tally;
 
-use compare::{plan_words, Bench, Difference};
+use compare::{file_words, Comparison, Difference};
 use plans::Source;
-use second::fault::{self, Fault, FAULTS};
+use second::fault::{self, Fault};
 use std::process::ExitCode;
 use std::sync::atomic::{AtomicBool, Ordering};
 use std::sync::Mutex;
@@ -21,8 +21,12 @@ const SAVED: &str = "target/bulk/difference.plan";
 
 fn main() -> ExitCode {
     let arguments: Vec<String> = std::env::args().skip(1).collect();
-    match Task::of(&arguments) {
-        Ok(task) => task.run(),
+    if arguments == ["--faults"] {
+        println!("{}", fault::names().join("\n"));
+        return ExitCode::SUCCESS;
+    }
+    match Run::of(&arguments) {
+        Ok(run) => run.run(),
         Err(error) => {
             eprintln!("bulk: {error}\n{}", help());
             ExitCode::from(2)
@@ -31,18 +35,19 @@ fn main() -> ExitCode {
 }
 
 fn help() -> String {
-    let names: Vec<&str> = FAULTS.iter().map(|(name, _)| *name).collect();
     format!(
         "usage: bulk/run [--fault NAME] SECONDS [SEED]
+       bulk/run --faults
   compares the engine with the second program for so many seconds, stops at the first difference
   --fault NAME   plants a fault in the second program: a difference must be found
+  --faults       lists the names of the faults, one a line
   NAME is one of: {}",
-        names.join(", ")
+        fault::names().join(", ")
     )
 }
 
 /// What the command line asks for.
-struct Task {
+struct Run {
     fault: Option<Fault>,
     seconds: u64,
     seed: u64,
@@ -55,8 +60,8 @@ struct Shared {
     difference: Mutex<Option<Difference>>,
 }
 
-impl Task {
-    fn of(arguments: &[String]) -> Result<Task, String> {
+impl Run {
+    fn of(arguments: &[String]) -> Result<Run, String> {
         let (fault, rest) = match arguments {
             [option, name, rest @ ..] if option == "--fault" => {
                 let fault = fault::named(name).ok_or(format!("unknown fault {name}"))?;
@@ -73,7 +78,7 @@ impl Task {
             [seconds, seed] => (number(seconds)?, number(seed)?),
             _ => return Err("SECONDS is due".to_string()),
         };
-        Ok(Task {
+        Ok(Run {
             fault,
             seconds,
             seed,
@@ -87,12 +92,13 @@ impl Task {
             tally: Mutex::new(Tally::default()),
             difference: Mutex::new(None),
         };
-        let hands = thread::available_parallelism().map_or(2, |count| count.get() as u64);
-        println!("seed {}, {hands} threads", self.seed);
+        let threads = thread::available_parallelism().map_or(2, |count| count.get() as u64);
+        println!("seed {}, {threads} threads", self.seed);
         thread::scope(|scope| {
-            for hand in 0..hands {
+            for thread in 0..threads {
+                let source = Source::new(self.seed, thread, threads);
                 let shared = &shared;
-                scope.spawn(move || self.work(hand, hands, start, shared));
+                scope.spawn(move || self.work(source, start, shared));
             }
         });
         let seconds = start.elapsed().as_secs_f64();
@@ -104,29 +110,24 @@ impl Task {
     }
 
     /// One thread: its share of the plans, until the time is up or someone found a difference.
-    fn work(&self, hand: u64, hands: u64, start: Instant, shared: &Shared) {
-        let mut source = Source::new(self.seed, hand, hands);
-        let mut bench = Bench::new(self.fault);
+    fn work(&self, mut source: Source, start: Instant, shared: &Shared) {
+        let mut comparison = Comparison::new(self.fault);
         let end = start + Duration::from_secs(self.seconds);
         while !shared.over.load(Ordering::Relaxed) && Instant::now() < end {
             let (file, mut random) = source.next_file();
-            if let Err(difference) = bench.compare(&file, &mut random) {
+            if let Err(difference) = comparison.compare(&file, &mut random) {
                 shared.over.store(true, Ordering::Relaxed);
                 shared.difference.lock().unwrap().get_or_insert(difference);
             }
         }
-        shared.tally.lock().unwrap().add(&bench.tally);
+        shared.tally.lock().unwrap().add(&comparison.tally);
     }
 
     /// The last words: a difference is a failure, unless a fault was planted, which must be found.
     fn verdict(&self, difference: Option<Difference>, seconds: f64) -> ExitCode {
         match (&difference, self.fault) {
             (Some(found), None) => {
-                print!(
-                    "DIFFERENCE\n{}the plan:\n{}",
-                    found.text,
-                    plan_words(&found.file)
-                );
+                print!("DIFFERENCE\n{}", difference_words(found));
                 match std::fs::write(SAVED, &found.file) {
                     Ok(()) => println!("the plan is in {SAVED}"),
                     Err(error) => println!("the plan could not be saved in {SAVED}: {error}"),
@@ -134,7 +135,7 @@ impl Task {
                 ExitCode::FAILURE
             }
             (Some(found), Some(_)) => {
-                print!("{}the plan:\n{}", found.text, plan_words(&found.file));
+                print!("{}", difference_words(found));
                 println!("the planted fault was found after {seconds:.3} s");
                 ExitCode::SUCCESS
             }
@@ -148,6 +149,10 @@ impl Task {
             }
         }
     }
+}
+
+fn difference_words(found: &Difference) -> String {
+    format!("{}the plan:\n{}", found.text, file_words(&found.file))
 }
 
 fn seed_of_now() -> u64 {

@@ -1,5 +1,8 @@
 //! How many comparisons of each kind were made.
 
+use crate::engine::{Answer, Call};
+use second::Refusal;
+
 /// What is compared.
 #[derive(Clone, Copy, Debug, PartialEq, Eq)]
 pub enum Kind {
@@ -22,7 +25,7 @@ const LINES: [(Kind, &str); 7] = [
     (Kind::Balance, "balance"),
     (
         Kind::Step,
-        "resource step, one for each resource and one beyond",
+        "resource step, one for each resource and three beyond",
     ),
     (
         Kind::LongerBuffer,
@@ -38,15 +41,15 @@ const LINES: [(Kind, &str); 7] = [
     ),
 ];
 
-/// One more than the largest refusal number.
-const REFUSALS: usize = 13;
+/// One for "settled", and one for each refusal number.
+const ANSWERS: usize = 1 + Refusal::LAST_NUMBER as usize;
 
 #[derive(Clone, Default)]
 pub struct Tally {
     pub plans: u64,
     kinds: [u64; LINES.len()],
     /// Settle's answers by refusal number; 0 is "settled".
-    answers: [u64; REFUSALS],
+    answers: [u64; ANSWERS],
 }
 
 impl Tally {
@@ -54,16 +57,24 @@ impl Tally {
         self.kinds[kind as usize] += 1;
     }
 
-    pub fn count_answer(&mut self, number: usize) {
-        self.answers[number] += 1;
+    /// One call, and what it has to answer.
+    pub fn count_call(&mut self, call: Call, answer: Answer) {
+        self.count(match call {
+            Call::Settle => Kind::Settle,
+            Call::Check => Kind::Check,
+            Call::Balance => Kind::Balance,
+            Call::Step(_) => Kind::Step,
+        });
+        if call == Call::Settle {
+            self.answers[answer.number() as usize] += 1;
+        }
     }
 
     pub fn add(&mut self, other: &Tally) {
         self.plans += other.plans;
-        for (mine, theirs) in self.kinds.iter_mut().zip(other.kinds) {
-            *mine += theirs;
-        }
-        for (mine, theirs) in self.answers.iter_mut().zip(other.answers) {
+        let kinds = self.kinds.iter_mut().zip(&other.kinds);
+        let answers = self.answers.iter_mut().zip(&other.answers);
+        for (mine, theirs) in kinds.chain(answers) {
             *mine += theirs;
         }
     }
@@ -73,7 +84,7 @@ impl Tally {
         for (kind, line) in LINES {
             text += &format!("{:>12}  {line}\n", self.kinds[kind as usize]);
         }
-        let refusals: Vec<String> = (1..REFUSALS)
+        let refusals: Vec<String> = (1..ANSWERS)
             .filter(|number| self.answers[*number] > 0)
             .map(|number| format!("{number}: {}", self.answers[number]))
             .collect();

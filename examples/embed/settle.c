@@ -40,7 +40,7 @@ static size_t without_plan(uint8_t *file) {
 }
 
 int main(void) {
-    uint8_t file[9382], out[9382], before[9382];
+    uint8_t file[GRISTWALTZ_LONGEST_FILE], out[GRISTWALTZ_LONGEST_FILE], before[GRISTWALTZ_LONGEST_FILE];
 
     size_t length = case_nine(file);
     uint64_t answer = gristwaltz_settle(file, length, out, sizeof out);

@@ -1,12 +1,16 @@
 //! Allowed plans by plain listing: every choice for every task, each looked at.
 
 use crate::entry;
-use crate::kinds::*;
+use crate::plan::*;
+use crate::refusal::Refusal;
+use std::ops::RangeInclusive;
 
-/// What a plan chooses for one task: "one resource and one value in each range".
+/// "It chooses for each task one resource and one value in each range". "Two
+/// plans are the same if all five values of all tasks are."
 #[derive(Clone, Copy, Debug, PartialEq, Eq)]
 pub struct Choice {
-    pub resource: usize,
+    /// The place of the resource.
+    pub place: usize,
     pub origin: i64,
     pub duration: i64,
     pub end: i64,
@@ -14,9 +18,10 @@ pub struct Choice {
 }
 
 impl Choice {
-    /// "A task covers the days from origin to end - 1."
-    fn covers(&self, day: i64) -> bool {
-        (self.origin..=self.end - 1).contains(&day)
+    /// "A task covers the days from origin to end - 1. So a task of duration 0
+    /// covers none."
+    pub fn days(&self) -> RangeInclusive<i64> {
+        self.origin..=self.end - 1
     }
 }
 
@@ -27,25 +32,23 @@ pub fn count(plan: &Plan) -> Result<u64, Refusal> {
     Ok(count_from(plan, &choices, &mut Vec::new()))
 }
 
-/// Every choice for one task with "origin + duration = end".
-pub fn choices(task: &Task) -> Vec<Choice> {
+/// Every choice for one task, "so that origin + duration = end for each task".
+fn choices(task: &Task) -> Vec<Choice> {
     let mut list = Vec::new();
-    for resource in (0..MOST_RESOURCES).filter(|place| task.set & (1 << place) != 0) {
-        for origin in task.origin.0..=task.origin.1 {
-            for duration in task.duration.0..=task.duration.1 {
-                for end in task.end.0..=task.end.1 {
+    for place in task.set.places() {
+        for origin in task.origin.values() {
+            for duration in task.duration.values() {
+                for end in task.end.values() {
                     if origin + duration != end {
                         continue;
                     }
-                    for height in task.height.0..=task.height.1 {
-                        list.push(Choice {
-                            resource,
-                            origin,
-                            duration,
-                            end,
-                            height,
-                        });
-                    }
+                    list.extend(task.height.values().map(|height| Choice {
+                        place,
+                        origin,
+                        duration,
+                        end,
+                        height,
+                    }));
                 }
             }
         }
@@ -69,12 +72,13 @@ fn count_from(plan: &Plan, choices: &[Vec<Choice>], chosen: &mut Vec<Choice>) ->
 
 /// "on every resource and every day covered there by at least one task, the
 /// heights of all tasks covering that day on that resource add up to at least
-/// (or at most) the limit". Days that no task covers are never visited.
-pub fn levels_hold(plan: &Plan, chosen: &[Choice]) -> bool {
+/// (or at most) the limit". "A day that no task covers is not checked (report,
+/// condition 4)."
+fn levels_hold(plan: &Plan, chosen: &[Choice]) -> bool {
     chosen.iter().all(|choice| {
-        let limit = plan.resources[choice.resource].limit;
-        (choice.origin..=choice.end - 1).all(|day| {
-            let level = level(chosen, choice.resource, day);
+        choice.days().all(|day| {
+            let level = level_on(chosen, choice.place, day);
+            let limit = plan.limit_on(choice.place, day);
             match plan.sense {
                 Sense::AtLeast => level >= limit,
                 Sense::AtMost => level <= limit,
@@ -84,26 +88,38 @@ pub fn levels_hold(plan: &Plan, chosen: &[Choice]) -> bool {
 }
 
 /// "the heights of all tasks covering that day on that resource" added up.
-fn level(chosen: &[Choice], resource: usize, day: i64) -> i64 {
-    let there = |choice: &&Choice| choice.resource == resource && choice.covers(day);
-    chosen
-        .iter()
-        .filter(there)
-        .map(|choice| choice.height)
-        .sum()
+pub fn level_on(chosen: &[Choice], place: usize, day: i64) -> i64 {
+    let covering = |choice: &&Choice| choice.place == place && choice.days().contains(&day);
+    let covering = chosen.iter().filter(covering);
+    covering.map(|choice| choice.height).sum()
 }
 
-/// How much `count` would list: the largest number of value combinations of
-/// one task, and the number of plans before any is looked at.
-pub fn listing_size(plan: &Plan) -> (u128, u128) {
-    let width = |range: Range| (range.1 - range.0 + 1).max(0) as u128;
-    let mut largest = 0;
-    let mut plans = 1u128;
-    for task in &plan.tasks {
-        let sums = width(task.origin) * width(task.duration) * u128::from(task.set.count_ones());
-        let tried = sums * width(task.end).max(width(task.height));
-        largest = tried.max(largest);
-        plans = plans.saturating_mul(sums * width(task.height));
+/// How much `count` lists.
+pub struct ListingSize {
+    /// The most combinations of values that are tried for one task.
+    pub values: u128,
+    /// The number of plans before any is looked at.
+    pub plans: u128,
+}
+
+impl ListingSize {
+    pub fn most(&self) -> u128 {
+        self.values.max(self.plans)
     }
-    (largest, plans)
+}
+
+pub fn listing_size(plan: &Plan) -> ListingSize {
+    let count = |range: Range| u128::from(range.count());
+    let mut size = ListingSize {
+        values: 0,
+        plans: 1,
+    };
+    for task in &plan.tasks {
+        let places = task.set.places().count() as u128;
+        let sums = places * count(task.origin) * count(task.duration);
+        let tried = sums * count(task.end).max(count(task.height));
+        size.values = size.values.max(tried);
+        size.plans = size.plans.saturating_mul(sums * count(task.height));
+    }
+    size
 }

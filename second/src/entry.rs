@@ -1,67 +1,67 @@
 //! Entry checks: refusals 1 to 6 with their places, in document 01's order.
 
-use crate::kinds::*;
+use crate::plan::*;
+use crate::refusal::Refusal;
 
 /// "Order for lists: 1, 2, 3 over all resources, 4 over all, then task by task
-/// 5 before 6".
+/// 5 before 6, then 12 or 10, then 7." The last three are the calls' own.
 pub fn check(plan: &Plan) -> Result<(), Refusal> {
     check_counts(plan.resources.len(), plan.tasks.len())?;
     check_contents(plan)
 }
 
-/// Refusal 1, "more than 256 tasks", then 2, "no resource, or more than 16".
+/// Refusals 1 and 2.
 pub fn check_counts(resources: usize, tasks: usize) -> Result<(), Refusal> {
     if tasks > MOST_TASKS {
-        return Err(Refusal::new(1, 0));
+        return Err(Refusal::TOO_MANY_TASKS);
     }
     if resources == 0 || resources > MOST_RESOURCES {
-        return Err(Refusal::new(2, 0));
+        return Err(Refusal::NO_RESOURCE_OR_TOO_MANY);
     }
     Ok(())
 }
 
 /// Refusals 3 to 6, for lists whose lengths have been checked.
 pub fn check_contents(plan: &Plan) -> Result<(), Refusal> {
-    for (place, resource) in plan.resources.iter().enumerate() {
-        // 3: "an identifier repeats an earlier one", "first resource that repeats".
-        if plan.resources[..place]
-            .iter()
-            .any(|earlier| earlier.id == resource.id)
-        {
-            return Err(Refusal::new(3, place));
-        }
-    }
-    for (place, resource) in plan.resources.iter().enumerate() {
-        // 4: "a limit outside its ends", "first such resource".
-        if resource.limit < POWERS.0 || resource.limit > POWERS.1 {
-            return Err(Refusal::new(4, place));
-        }
-    }
+    check_identifiers(&plan.resources)?;
+    check_limits(&plan.resources)?;
     for (place, task) in plan.tasks.iter().enumerate() {
-        // 5: "a task's range is outside its ends, or low above high".
         if !ranges_stand(task) {
-            return Err(Refusal::new(5, place));
+            return Err(Refusal::range_outside(place));
         }
-        // 6: "a task's set is empty or names a place beyond the resource list".
         if !set_stands(task.set, plan.resources.len()) {
-            return Err(Refusal::new(6, place));
+            return Err(Refusal::set_empty_or_beyond(place));
+        }
+    }
+    Ok(())
+}
+
+fn check_identifiers(resources: &[Resource]) -> Result<(), Refusal> {
+    for (place, resource) in resources.iter().enumerate() {
+        let mut earlier = resources[..place].iter();
+        if earlier.any(|earlier| earlier.id == resource.id) {
+            return Err(Refusal::identifier_repeats(place));
+        }
+    }
+    Ok(())
+}
+
+fn check_limits(resources: &[Resource]) -> Result<(), Refusal> {
+    for (place, resource) in resources.iter().enumerate() {
+        if !Range::single(resource.limit).stands_within(POWERS) {
+            return Err(Refusal::limit_outside(place));
         }
     }
     Ok(())
 }
 
 fn ranges_stand(task: &Task) -> bool {
-    range_stands(task.origin, DAYS)
-        && range_stands(task.duration, DURATIONS)
-        && range_stands(task.end, DAYS)
-        && range_stands(task.height, POWERS)
+    task.origin.stands_within(DAYS)
+        && task.duration.stands_within(DURATIONS)
+        && task.end.stands_within(DAYS)
+        && task.height.stands_within(POWERS)
 }
 
-fn range_stands(range: Range, ends: Range) -> bool {
-    ends.0 <= range.0 && range.0 <= range.1 && range.1 <= ends.1
-}
-
-fn set_stands(set: u64, resources: usize) -> bool {
-    let beyond = (0..64).any(|place| place >= resources && set & (1 << place) != 0);
-    set != 0 && !beyond
+fn set_stands(set: Set, resources: usize) -> bool {
+    set != Set::EMPTY && set.places().all(|place| place < resources)
 }

@@ -1,20 +1,22 @@
-//! The six "Errors that look right" of document 01, each to be planted alone.
+//! The "Errors that look right" of document 01, each to be planted alone.
 
 /// A planted error. The rules without one take `None`.
 #[derive(Clone, Copy, Debug, PartialEq, Eq)]
 pub enum Fault {
-    /// "Counting a negative height while the task may still go elsewhere":
-    /// a negative hope counts although r is not the task's only resource.
+    /// "Counting a negative height while the task may still go elsewhere: plans
+    /// are lost." A negative hope counts although r is not the only resource.
     NegativeElsewhere,
-    /// "Treating end as a covered day": i <= end where the rule says i < end.
+    /// "Treating end as a covered day: two jobs back to back seem to clash."
+    /// i <= end where the rule says i < end.
     EndCovered,
-    /// "Checking bare days as if the level held there": shortfall and need
-    /// speak on every day from the first origin to before the last end.
+    /// "Checking bare days as if the level held there (case 6)." Shortfall and
+    /// need speak on every day from the first origin to before the last end.
     BareDays,
-    /// "Closing a range round a barred middle, dropping one side": the range
-    /// stops at the first barred value after its smallest value left.
+    /// "Closing a range round a barred middle, dropping one side (case 8)." The
+    /// range stops at the first barred value after its smallest value left.
     ClosedMiddle,
-    /// "Requiring a sure task before barring".
+    /// "Requiring a sure task before barring: a task that covers a day makes that
+    /// day count by itself."
     BarNeedsSure,
     /// "Taking a task's own height out of the sum to get others when it was
     /// never added, as for a negative one that isn't sure."
@@ -22,7 +24,7 @@ pub enum Fault {
 }
 
 /// Every fault with the name the command line knows it by.
-pub const FAULTS: [(&str, Fault); 6] = [
+pub const FAULTS: &[(&str, Fault)] = &[
     ("negative-elsewhere", Fault::NegativeElsewhere),
     ("end-covered", Fault::EndCovered),
     ("bare-days", Fault::BareDays),
@@ -31,10 +33,12 @@ pub const FAULTS: [(&str, Fault); 6] = [
     ("own-never-added", Fault::OwnNeverAdded),
 ];
 
+pub fn names() -> Vec<&'static str> {
+    FAULTS.iter().map(|(name, _)| *name).collect()
+}
+
 /// The fault of that name, if there is one.
 pub fn named(name: &str) -> Option<Fault> {
-    FAULTS
-        .iter()
-        .find(|(known, _)| *known == name)
-        .map(|(_, fault)| *fault)
+    let known = FAULTS.iter().find(|(known, _)| *known == name);
+    known.map(|(_, fault)| *fault)
 }

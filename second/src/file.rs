@@ -1,116 +1,206 @@
-//! Plan files: reading (8, 9, 1, 2, 11, then 3 to 6) and writing (1 to 6, then 10).
+//! Plan files: their records, reading (8, 9, 1, 2, 11, then 3 to 6) and writing (1 to 6, then 10).
 
 use crate::entry;
-use crate::kinds::*;
+use crate::plan::*;
+use crate::refusal::Refusal;
 
-/// "One PL, all RS, all TK, nothing more; at most 9,382 bytes."
-pub const LONGEST: usize = 9_382;
-pub const PL_LENGTH: usize = 6;
-pub const RS_LENGTH: usize = 10;
-pub const TK_LENGTH: usize = 36;
+/// One kind of record: "Each record begins with two mark bytes (ASCII)."
+#[derive(Clone, Copy, Debug, PartialEq, Eq)]
+pub struct Record {
+    pub mark: [u8; 2],
+    /// The table's "total", the mark among it.
+    pub length: usize,
+}
 
-/// Reads a plan file into lists that have room for `resource_room` resources
-/// and `task_room` tasks.
-pub fn read(bytes: &[u8], resource_room: usize, task_room: usize) -> Result<Plan, Refusal> {
-    let mut place = 0;
-    let head = record(bytes, &mut place, b"PL", PL_LENGTH)?;
-    let sense = read_sense(head[2])?;
-    let resource_count = usize::from(head[3]);
-    let task_count = usize::from(u16::from_le_bytes([head[4], head[5]]));
-    // "refusal 1 for the task count, refusal 2 for the resource count, refusal 11".
-    entry::check_counts(resource_count, task_count)?;
-    if resource_count > resource_room || task_count > task_room {
-        return Err(Refusal::new(11, 0));
+/// "sense 1, resource count 1, task count 2"
+pub const PL: Record = Record {
+    mark: *b"PL",
+    length: 6,
+};
+
+/// "identifier 4, limit 4"
+pub const RS: Record = Record {
+    mark: *b"RS",
+    length: 10,
+};
+
+/// "set 2 (bit k is resource k), then low and high, 4 each, of origin, duration,
+/// end, height"
+pub const TK: Record = Record {
+    mark: *b"TK",
+    length: 36,
+};
+
+/// How long the file of so many resources and tasks is, and so where the record
+/// after them starts: "One PL, all RS, all TK, nothing more".
+pub const fn length(resources: usize, tasks: usize) -> usize {
+    PL.length + resources * RS.length + tasks * TK.length
+}
+
+/// "at most 9,382 bytes"
+pub const LONGEST: usize = length(MOST_RESOURCES, MOST_TASKS);
+
+// ---- Reading ----
+
+/// Reads a plan file into lists that have room for every plan.
+pub fn read(bytes: &[u8]) -> Result<Plan, Refusal> {
+    read_with_room(bytes, MOST_RESOURCES, MOST_TASKS)
+}
+
+/// Reads a plan file into lists that have room for so many resources and tasks.
+/// "On success the reader writes the first places only and later ones stay": here
+/// the lists are new and as long as the file says.
+pub fn read_with_room(
+    bytes: &[u8],
+    resource_room: usize,
+    task_room: usize,
+) -> Result<Plan, Refusal> {
+    let mut reader = Reader { bytes, place: 0 };
+    let head = Head::of_fields(reader.due(PL)?);
+    // "In PL then, in this order: refusal 8 for the sense, refusal 1 for the task
+    // count, refusal 2 for the resource count, refusal 11." PL starts at byte 0.
+    let sense = Sense::numbered(head.sense).ok_or(Refusal::wrong_mark_or_sense(0))?;
+    let (resources, tasks) = (usize::from(head.resources), usize::from(head.tasks));
+    entry::check_counts(resources, tasks)?;
+    if resources > resource_room || tasks > task_room {
+        return Err(Refusal::LIST_SHORTER);
     }
     let mut plan = Plan {
         sense,
         resources: Vec::new(),
         tasks: Vec::new(),
     };
-    for _ in 0..resource_count {
-        plan.resources
-            .push(read_resource(record(bytes, &mut place, b"RS", RS_LENGTH)?));
+    for _ in 0..resources {
+        plan.resources.push(resource_of(reader.due(RS)?));
     }
-    for _ in 0..task_count {
-        plan.tasks
-            .push(read_task(record(bytes, &mut place, b"TK", TK_LENGTH)?));
+    for _ in 0..tasks {
+        plan.tasks.push(task_of(reader.due(TK)?));
     }
     // "After the last record, leftover bytes 9, then 3 to 6."
-    if place < bytes.len() {
-        return Err(Refusal::new(9, place));
-    }
+    reader.end()?;
     entry::check_contents(&plan)?;
     Ok(plan)
 }
 
-/// Takes the record that is due: "fewer than two bytes left, 9; wrong mark, 8;
-/// record longer than the rest, 9", each at the "byte where the record starts".
-fn record<'a>(
+/// "A reader stands in the lent file bytes and hands out one record after another".
+struct Reader<'a> {
     bytes: &'a [u8],
-    place: &mut usize,
-    mark: &[u8; 2],
-    length: usize,
-) -> Result<&'a [u8], Refusal> {
-    let start = *place;
-    let rest = &bytes[start..];
-    if rest.len() < 2 {
-        return Err(Refusal::new(9, start));
-    }
-    if rest[0] != mark[0] || rest[1] != mark[1] {
-        return Err(Refusal::new(8, start));
-    }
-    if length > rest.len() {
-        return Err(Refusal::new(9, start));
-    }
-    *place = start + length;
-    Ok(&rest[..length])
+    place: usize,
 }
 
-/// 8: "a sense byte above 1"; PL starts at byte 0.
-fn read_sense(byte: u8) -> Result<Sense, Refusal> {
-    match byte {
-        0 => Ok(Sense::AtMost),
-        1 => Ok(Sense::AtLeast),
-        _ => Err(Refusal::new(8, 0)),
+impl<'a> Reader<'a> {
+    /// "each caller takes the record it is due and turns every other answer into
+    /// the refusal": what follows its mark. "Per record: fewer than two bytes left,
+    /// 9; wrong mark, 8; record longer than the rest, 9."
+    fn due(&mut self, record: Record) -> Result<Fields<'a>, Refusal> {
+        let start = self.place;
+        let rest = &self.bytes[start..];
+        let Some(mark) = rest.first_chunk() else {
+            return Err(Refusal::cut_short_or_left_over(start));
+        };
+        if *mark != record.mark {
+            return Err(Refusal::wrong_mark_or_sense(start));
+        }
+        if record.length > rest.len() {
+            return Err(Refusal::cut_short_or_left_over(start));
+        }
+        self.place = start + record.length;
+        Ok(Fields(&rest[mark.len()..record.length]))
+    }
+
+    fn end(&self) -> Result<(), Refusal> {
+        if self.place < self.bytes.len() {
+            return Err(Refusal::cut_short_or_left_over(self.place));
+        }
+        Ok(())
     }
 }
 
-fn read_resource(record: &[u8]) -> Resource {
+/// A record's bytes that are not taken yet. "Numbers are little-endian, signed
+/// ones in two's complement."
+struct Fields<'a>(&'a [u8]);
+
+impl Fields<'_> {
+    fn take<const SIZE: usize>(&mut self) -> [u8; SIZE] {
+        let (field, rest) = self.0.split_first_chunk().expect("the record is whole");
+        self.0 = rest;
+        *field
+    }
+
+    fn signed(&mut self) -> i32 {
+        i32::from_le_bytes(self.take())
+    }
+
+    /// "low and high, 4 each"
+    fn range(&mut self) -> Range {
+        Range {
+            low: i64::from(self.signed()),
+            high: i64::from(self.signed()),
+        }
+    }
+}
+
+fn resource_of(mut fields: Fields) -> Resource {
     Resource {
-        id: signed(record, 2),
-        limit: i64::from(signed(record, 6)),
+        id: fields.signed(),
+        limit: i64::from(fields.signed()),
     }
 }
 
-fn read_task(record: &[u8]) -> Task {
+fn task_of(mut fields: Fields) -> Task {
     Task {
-        set: u64::from(u16::from_le_bytes([record[2], record[3]])),
-        origin: low_and_high(record, 4),
-        duration: low_and_high(record, 12),
-        end: low_and_high(record, 20),
-        height: low_and_high(record, 28),
+        set: Set(u64::from(u16::from_le_bytes(fields.take()))),
+        origin: fields.range(),
+        duration: fields.range(),
+        end: fields.range(),
+        height: fields.range(),
     }
 }
 
-fn low_and_high(record: &[u8], at: usize) -> Range {
-    (
-        i64::from(signed(record, at)),
-        i64::from(signed(record, at + 4)),
-    )
+/// What PL says, as yet unchecked.
+pub struct Head {
+    pub sense: u8,
+    pub resources: u8,
+    pub tasks: u16,
 }
 
-/// "Numbers are little-endian, signed ones in two's complement."
-fn signed(record: &[u8], at: usize) -> i32 {
-    i32::from_le_bytes([record[at], record[at + 1], record[at + 2], record[at + 3]])
+impl Head {
+    /// Counts that are too large keep their low bytes.
+    pub fn of(plan: &Plan) -> Head {
+        Head {
+            sense: plan.sense as u8,
+            resources: plan.resources.len() as u8,
+            tasks: plan.tasks.len() as u16,
+        }
+    }
+
+    fn of_fields(mut fields: Fields) -> Head {
+        Head {
+            sense: u8::from_le_bytes(fields.take()),
+            resources: u8::from_le_bytes(fields.take()),
+            tasks: u16::from_le_bytes(fields.take()),
+        }
+    }
+
+    /// The whole record.
+    pub fn bytes(&self) -> Vec<u8> {
+        let mut bytes = PL.mark.to_vec();
+        bytes.extend(self.sense.to_le_bytes());
+        bytes.extend(self.resources.to_le_bytes());
+        bytes.extend(self.tasks.to_le_bytes());
+        bytes
+    }
 }
+
+// ---- Writing ----
 
 /// Writes the plan file into the buffer's first bytes and gives its length:
-/// refusals 1 to 6, then 10, "output buffer shorter than the file".
+/// refusals 1 to 6, then 10. "the writer writes exactly the file's length".
 pub fn write(plan: &Plan, buffer: &mut [u8]) -> Result<usize, Refusal> {
     entry::check(plan)?;
     let bytes = unchecked_bytes(plan);
     if buffer.len() < bytes.len() {
-        return Err(Refusal::new(10, 0));
+        return Err(Refusal::BUFFER_SHORTER);
     }
     buffer[..bytes.len()].copy_from_slice(&bytes);
     Ok(bytes.len())
@@ -119,22 +209,16 @@ pub fn write(plan: &Plan, buffer: &mut [u8]) -> Result<usize, Refusal> {
 /// The plan's file bytes with no check at all: numbers keep their low bytes,
 /// so damaged files can be made as well.
 pub fn unchecked_bytes(plan: &Plan) -> Vec<u8> {
-    let mut bytes = b"PL".to_vec();
-    bytes.push(match plan.sense {
-        Sense::AtMost => 0,
-        Sense::AtLeast => 1,
-    });
-    bytes.push(plan.resources.len() as u8);
-    bytes.extend((plan.tasks.len() as u16).to_le_bytes());
+    let mut bytes = Head::of(plan).bytes();
     for resource in &plan.resources {
-        bytes.extend(b"RS");
+        bytes.extend(RS.mark);
         bytes.extend(resource.id.to_le_bytes());
         bytes.extend((resource.limit as i32).to_le_bytes());
     }
     for task in &plan.tasks {
-        bytes.extend(b"TK");
-        bytes.extend((task.set as u16).to_le_bytes());
-        for (low, high) in [task.origin, task.duration, task.end, task.height] {
+        bytes.extend(TK.mark);
+        bytes.extend((task.set.0 as u16).to_le_bytes());
+        for Range { low, high } in task.ranges() {
             bytes.extend((low as i32).to_le_bytes());
             bytes.extend((high as i32).to_le_bytes());
         }

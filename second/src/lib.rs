@@ -1,19 +1,30 @@
 //! The second program: document 01 read literally, day by day and value by value.
 //!
-//! It shares nothing with the engine. It is slow where being literal makes it
-//! slow, and exists so that the engine's answers can be compared with it.
+//! "Further plans, valid and damaged, are run by a program and compared with an
+//! independent second program that lists allowed plans and applies the rules day
+//! by day." It shares nothing with the engine, and is slow where being literal
+//! makes it slow.
+//!
+//! `plan` is what a plan holds, `refusal` and `entry` what is refused, `steps`,
+//! `rules` and `left` how ranges are narrowed, `allowed` the listing, `file` and
+//! `program` the bytes read and the lines printed. `fault` plants an error in the
+//! rules, `make` makes plans to compare on.
 
 pub mod allowed;
 pub mod entry;
 pub mod fault;
 pub mod file;
-pub mod kinds;
+mod left;
 pub mod make;
+pub mod plan;
 pub mod program;
 pub mod random;
+pub mod refusal;
+mod rules;
 pub mod steps;
-pub mod values;
+pub mod stream;
 pub mod words;
 
 pub use fault::Fault;
-pub use kinds::{Plan, Range, Refusal, Resource, Sense, Task};
+pub use plan::{Plan, Range, Resource, Sense, Set, Task};
+pub use refusal::Refusal;

@@ -1,7 +1,7 @@
 //! The command line of the second program.
 
-use second::fault::{self, Fault, FAULTS};
-use second::{allowed, file, kinds, make, program, words};
+use second::fault::{self, Fault};
+use second::{allowed, file, make, program, stream, words, Plan};
 use std::io::{self, Read, Write};
 use std::process::ExitCode;
 
@@ -35,7 +35,6 @@ fn run(arguments: &[String]) -> Result<(), String> {
 }
 
 fn help() -> String {
-    let names: Vec<&str> = FAULTS.iter().map(|(name, _)| *name).collect();
     format!(
         "usage:
   second settle [--fault NAME] < FILE      what the planning program prints for FILE
@@ -47,56 +46,47 @@ fn help() -> String {
 A stream holds plan files, each with its length in front as 4 bytes little-endian.
 NAME is one of: {}
 ",
-        names.join(", ")
+        fault::names().join(", ")
     )
 }
+
+// ---- The commands ----
 
 fn settle(fault: Option<Fault>) -> Result<(), String> {
     print(program::answer(&plan_file()?, fault).as_bytes())
 }
 
 fn answers(fault: Option<Fault>) -> Result<(), String> {
-    let mut stream = Vec::new();
-    io::stdin()
-        .read_to_end(&mut stream)
-        .map_err(|error| format!("cannot read: {error}"))?;
+    let stream = input(u64::MAX)?;
     let mut out = io::BufWriter::new(io::stdout().lock());
     let mut rest = stream.as_slice();
     let mut number = 0;
     while !rest.is_empty() {
         let (file, after) =
-            first_file(rest).ok_or(format!("the stream is cut short in file {number}"))?;
+            stream::first_file(rest).ok_or(format!("the stream is cut short in file {number}"))?;
         let answer = program::answer(file, fault);
-        out.write_all(answer.as_bytes())
-            .map_err(|error| format!("cannot write: {error}"))?;
+        out.write_all(answer.as_bytes()).map_err(cannot_write)?;
         rest = after;
         number += 1;
     }
-    out.flush()
-        .map_err(|error| format!("cannot write: {error}"))
-}
-
-/// The stream's first file and what comes after it.
-fn first_file(stream: &[u8]) -> Option<(&[u8], &[u8])> {
-    let length = u32::from_le_bytes(stream.get(..4)?.try_into().ok()?) as usize;
-    let file = stream.get(4..4 + length)?;
-    Some((file, &stream[4 + length..]))
+    out.flush().map_err(cannot_write)
 }
 
 fn count() -> Result<(), String> {
     let plan = read_plan()?;
-    let (largest, plans) = allowed::listing_size(&plan);
-    if largest > MOST_LISTED || plans > MOST_LISTED {
+    let size = allowed::listing_size(&plan);
+    if size.most() > MOST_LISTED {
         return Err(format!(
-            "too much to list: up to {plans} plans, {largest} values of one task"
+            "too much to list: up to {} plans, {} values of one task",
+            size.plans, size.values
         ));
     }
-    let count = allowed::count(&plan).map_err(refused)?;
+    let count = allowed::count(&plan).map_err(|refusal| refusal.to_string())?;
     print(format!("{count}\n").as_bytes())
 }
 
 fn plan_words() -> Result<(), String> {
-    print(words::words(&read_plan()?).as_bytes())
+    print(words::of_plan(&read_plan()?).as_bytes())
 }
 
 fn make_stream(rest: &[String]) -> Result<(), String> {
@@ -110,46 +100,55 @@ fn make_stream(rest: &[String]) -> Result<(), String> {
     print(&make::stream(number(seed)?, number(count)?))
 }
 
+// ---- What follows a command ----
+
 fn fault_option(rest: &[String]) -> Result<Option<Fault>, String> {
     match rest {
         [] => Ok(None),
         [option, name] if option == "--fault" => fault::named(name)
             .map(Some)
             .ok_or(format!("unknown fault {name}\n{}", help())),
-        _ => Err(format!("not understood: {}\n{}", rest.join(" "), help())),
+        _ => Err(not_understood(rest)),
     }
 }
 
 fn nothing_more(rest: &[String]) -> Result<(), String> {
-    if rest.is_empty() {
-        Ok(())
-    } else {
-        Err(format!("not understood: {}\n{}", rest.join(" "), help()))
+    match rest {
+        [] => Ok(()),
+        _ => Err(not_understood(rest)),
     }
 }
 
-/// At most 9,383 bytes of standard input.
+fn not_understood(rest: &[String]) -> String {
+    format!("not understood: {}\n{}", rest.join(" "), help())
+}
+
+// ---- Standard input and output ----
+
+/// As much of standard input as the planning program reads.
 fn plan_file() -> Result<Vec<u8>, String> {
+    input(program::READ_AT_MOST as u64)
+}
+
+fn read_plan() -> Result<Plan, String> {
+    file::read(&plan_file()?).map_err(|refusal| refusal.to_string())
+}
+
+fn input(most: u64) -> Result<Vec<u8>, String> {
     let mut bytes = Vec::new();
-    let most = program::READ_AT_MOST as u64;
-    io::stdin()
-        .take(most)
-        .read_to_end(&mut bytes)
-        .map_err(|error| format!("cannot read: {error}"))?;
-    Ok(bytes)
-}
-
-fn read_plan() -> Result<kinds::Plan, String> {
-    file::read(&plan_file()?, kinds::MOST_RESOURCES, kinds::MOST_TASKS).map_err(refused)
-}
-
-fn refused(refusal: kinds::Refusal) -> String {
-    program::refused_text(refusal).trim_end().to_string()
+    match io::stdin().take(most).read_to_end(&mut bytes) {
+        Ok(_) => Ok(bytes),
+        Err(error) => Err(format!("cannot read: {error}")),
+    }
 }
 
 fn print(bytes: &[u8]) -> Result<(), String> {
     let mut out = io::stdout().lock();
     out.write_all(bytes)
         .and_then(|()| out.flush())
-        .map_err(|error| format!("cannot write: {error}"))
+        .map_err(cannot_write)
+}
+
+fn cannot_write(error: io::Error) -> String {
+    format!("cannot write: {error}")
 }

@@ -2,24 +2,26 @@
 
 use crate::fault::Fault;
 use crate::file;
-use crate::kinds::*;
+use crate::plan::*;
+use crate::refusal::Refusal;
 use crate::steps;
 
 /// "The planning program reads at most 9,383 bytes of a plan file from standard
 /// input (one more than the longest file, so a longer one gets its refusal)".
 pub const READ_AT_MOST: usize = file::LONGEST + 1;
 
-/// Exactly what the planning program prints for these input bytes.
+/// "prints exactly these lines, each ended by a line feed": what the planning
+/// program prints for these input bytes.
 pub fn answer(input: &[u8], fault: Option<Fault>) -> String {
     let bytes = &input[..input.len().min(READ_AT_MOST)];
     match settled(bytes, fault) {
         Ok((passes, plan)) => settled_text(passes, &plan),
-        Err(refusal) => refused_text(refusal),
+        Err(refusal) => format!("{refusal}\n"),
     }
 }
 
 fn settled(bytes: &[u8], fault: Option<Fault>) -> Result<(u64, Plan), Refusal> {
-    let mut plan = file::read(bytes, MOST_RESOURCES, MOST_TASKS)?;
+    let mut plan = file::read(bytes)?;
     let passes = steps::settle(&mut plan, fault)?;
     Ok((passes, plan))
 }
@@ -29,16 +31,11 @@ fn settled(bytes: &[u8], fault: Option<Fault>) -> Result<(u64, Plan), Refusal> {
 fn settled_text(passes: u64, plan: &Plan) -> String {
     let mut text = format!("settled {passes}\n");
     for (place, task) in plan.tasks.iter().enumerate() {
-        text += &format!("{place} {}", task.set);
-        for (low, high) in [task.origin, task.duration, task.end, task.height] {
+        text += &format!("{place} {}", task.set.0);
+        for Range { low, high } in task.ranges() {
             text += &format!(" {low} {high}");
         }
         text += "\n";
     }
     text
-}
-
-/// "`refused`, number, place, with single spaces, as `refused 7 0`."
-pub fn refused_text(refusal: Refusal) -> String {
-    format!("refused {} {}\n", refusal.number, refusal.place)
 }

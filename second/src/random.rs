@@ -1,5 +1,7 @@
 //! A small random source, the same for the same seed everywhere.
 
+use crate::plan::{Range, Set};
+
 /// A 64-bit counter whose steps are mixed (the splitmix64 recipe).
 pub struct Random {
     state: u64,
@@ -30,6 +32,27 @@ impl Random {
         assert!(low <= high, "{low} is above {high}");
         let width = (high - low) as u64 + 1;
         low + (self.bits() % width) as i64
+    }
+
+    /// A value of the range.
+    pub fn value(&mut self, range: Range) -> i64 {
+        self.within(range.low, range.high)
+    }
+
+    /// A range whose low is within from..to and whose high is up to `widest` above it.
+    pub fn range(&mut self, from: i64, to: i64, widest: i64) -> Range {
+        let low = self.within(from, to);
+        Range::new(low, low + self.within(0, widest))
+    }
+
+    /// A non-empty set of places in a list of that length, each set as likely.
+    pub fn set(&mut self, length: usize) -> Set {
+        Set(self.within(1, Set::all(length).0 as i64) as u64)
+    }
+
+    /// A number of things, from least to most.
+    pub fn count(&mut self, least: usize, most: usize) -> usize {
+        self.within(least as i64, most as i64) as usize
     }
 
     /// A place in a list of that length.

@@ -1,9 +1,9 @@
 //! A plan in readable words.
 
-use crate::kinds::*;
+use crate::plan::*;
 
-/// The plan, one line for the sense, each resource and each task.
-pub fn words(plan: &Plan) -> String {
+/// One line for the sense, each resource and each task.
+pub fn of_plan(plan: &Plan) -> String {
     let sense = match plan.sense {
         Sense::AtMost => "at most",
         Sense::AtLeast => "at least",
@@ -22,25 +22,22 @@ pub fn words(plan: &Plan) -> String {
     for (place, task) in plan.tasks.iter().enumerate() {
         text += &format!(
             "task {place}: set {{{}}}, origin {}, duration {}, end {}, height {}\n",
-            set_words(task.set),
-            range_words(task.origin),
-            range_words(task.duration),
-            range_words(task.end),
-            range_words(task.height)
+            of_set(task.set),
+            of_range(task.origin),
+            of_range(task.duration),
+            of_range(task.end),
+            of_range(task.height)
         );
     }
     text
 }
 
-fn set_words(set: u64) -> String {
-    let places: Vec<String> = (0..64)
-        .filter(|place| set & (1 << place) != 0)
-        .map(|place| place.to_string())
-        .collect();
+fn of_set(set: Set) -> String {
+    let places: Vec<String> = set.places().map(|place| place.to_string()).collect();
     places.join(",")
 }
 
-fn range_words((low, high): Range) -> String {
+fn of_range(Range { low, high }: Range) -> String {
     if low == high {
         format!("{low}")
     } else {

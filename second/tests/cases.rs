@@ -67,15 +67,15 @@ fn case_6_bare_days() {
 
 #[test]
 fn case_7_bars_on_both_sides() {
-    let b = wide(1, (0, 9), (1, 1), (1, 10), (-2, -2));
+    let b = wide(1, to(0, 9), to(1, 1), to(1, 10), to(-2, -2));
     let settled = settles(at_least(0, &[single(3, 2, 5, 2), b]), 2);
-    let left = wide(1, (3, 4), (1, 1), (4, 5), (-2, -2));
+    let left = wide(1, to(3, 4), to(1, 1), to(4, 5), to(-2, -2));
     assert_eq!(settled.tasks, [single(3, 2, 5, 2), left]);
 }
 
 #[test]
 fn case_8_barred_middle_stays_inside() {
-    let b = wide(1, (1, 3), (1, 1), (2, 4), (-2, -2));
+    let b = wide(1, to(1, 3), to(1, 1), to(2, 4), to(-2, -2));
     let plan = at_least(-3, &[single(2, 1, 3, -2), b]);
     assert_eq!(allowed::count(&plan), Ok(2));
     stays(plan, 1);
@@ -86,8 +86,8 @@ fn case_9() -> Plan {
         sense: Sense::AtLeast,
         resources: vec![Resource { id: 7, limit: 4 }, Resource { id: 9, limit: 3 }],
         tasks: vec![
-            wide(1, (1, 2), (2, 2), (3, 4), (0, 1)),
-            wide(3, (0, 6), (2, 2), (2, 8), (0, 4)),
+            wide(1, to(1, 2), to(2, 2), to(3, 4), to(0, 1)),
+            wide(3, to(0, 6), to(2, 2), to(2, 8), to(0, 4)),
         ],
     }
 }

@@ -17,14 +17,7 @@ fn random_step(random: &mut Random, plan: &mut Plan) -> bool {
             resource_step(plan, place, None)
         }
     };
-    assert!(matches!(
-        result,
-        Ok(())
-            | Err(Refusal {
-                number: 7,
-                place: 0
-            })
-    ));
+    assert!(matches!(result, Ok(()) | Err(Refusal::NO_PLAN)));
     result.is_err()
 }
 
@@ -64,11 +57,11 @@ fn every_step_keeps_the_number_of_allowed_plans() {
 fn settling_a_made_stream_keeps_the_number_of_allowed_plans() {
     let mut listed = 0;
     for n in 0..10_000 {
-        let Ok(entry) = file::read(&make::plan_file(14, n), 16, 256) else {
+        let Ok(entry) = file::read(&make::plan_file(14, n)) else {
             continue;
         };
-        let (values, plans) = allowed::listing_size(&entry);
-        if values > 10_000 || plans > 50_000 {
+        let size = allowed::listing_size(&entry);
+        if size.values > 10_000 || size.plans > 50_000 {
             continue;
         }
         listed += 1;

@@ -8,102 +8,113 @@ mod support;
 
 use second::random::Random;
 use second::steps::resource_step;
-use second::{Plan, Range, Sense, Task};
+use second::{file, make, Plan, Range, Sense, Set, Task};
 use support::*;
 
+fn is_sure(task: &Task, r: usize, i: i64) -> bool {
+    task.set.0 == 1 << r && task.origin.high <= i && i < task.end.low
+}
+
+fn is_possible(task: &Task, r: usize, i: i64) -> bool {
+    task.set.0 >> r & 1 == 1 && task.origin.low <= i && i < task.end.high
+}
+
 fn hope(task: &Task, r: usize, i: i64) -> i64 {
-    let sure = task.set == 1 << r && task.origin.1 <= i && i < task.end.0;
-    let possible = task.set >> r & 1 == 1 && task.origin.0 <= i && i < task.end.1;
-    match task.height.1 {
-        highest if highest > 0 && possible => highest,
-        highest if highest < 0 && sure => highest,
+    match task.height.high {
+        highest if highest > 0 && is_possible(task, r, i) => highest,
+        highest if highest < 0 && is_sure(task, r, i) => highest,
         _ => 0,
     }
 }
 
-/// From the smallest to the largest value left.
-fn hull(values: &[i64]) -> Option<Range> {
-    Some((*values.first()?, *values.last()?))
+/// What is left of one task: the set, and a list for each range.
+struct Lists {
+    set: u64,
+    origins: Vec<i64>,
+    durations: Vec<i64>,
+    ends: Vec<i64>,
+    heights: Vec<i64>,
 }
 
-fn list(range: Range) -> Vec<i64> {
-    (range.0..=range.1).collect()
+impl Lists {
+    fn of(task: &Task) -> Lists {
+        Lists {
+            set: task.set.0,
+            origins: task.origin.values().collect(),
+            durations: task.duration.values().collect(),
+            ends: task.end.values().collect(),
+            heights: task.height.values().collect(),
+        }
+    }
+
+    fn need(&mut self, task: &Task, r: usize, i: i64) {
+        let high = task.duration.high;
+        self.set &= 1 << r;
+        self.origins.retain(|&v| i - high + 1 <= v && v <= i);
+        self.ends.retain(|&v| i + 1 <= v && v <= i + high);
+    }
+
+    fn bar(&mut self, task: &Task, r: usize, i: i64) {
+        if task.origin.high <= i && i < task.end.low {
+            self.set &= !(1 << r);
+        }
+        if task.set.0 == 1 << r {
+            let low = task.duration.low;
+            self.origins.retain(|&v| !(i - low + 1 <= v && v <= i));
+            self.ends.retain(|&v| !(i + 1 <= v && v <= i + low));
+            let most = (i - task.origin.low).max(task.end.high - i - 1);
+            self.durations.retain(|&v| v <= most);
+        }
+    }
+
+    /// None if the set or a list is empty.
+    fn task(&self) -> Option<Task> {
+        let range = |values: &[i64]| Some(Range::new(*values.first()?, *values.last()?));
+        (self.set != 0).then_some(Task {
+            set: Set(self.set),
+            origin: range(&self.origins)?,
+            duration: range(&self.durations)?,
+            end: range(&self.ends)?,
+            height: range(&self.heights)?,
+        })
+    }
 }
 
 /// None if there is no plan.
 fn narrowed(tasks: &[Task], place: usize, r: usize, l: i64) -> Option<Task> {
-    let task = tasks[place];
-    let (mut set, mut origins, mut durations) = (task.set, list(task.origin), list(task.duration));
-    let (mut ends, mut heights) = (list(task.end), list(task.height));
-    let first = tasks.iter().map(|task| task.origin.0).min()?;
-    let last = tasks.iter().map(|task| task.end.1).max()?;
+    let task = &tasks[place];
+    let mut left = Lists::of(task);
+    let first = tasks.iter().map(|task| task.origin.low).min()?;
+    let last = tasks.iter().map(|task| task.end.high).max()?;
     for i in first..=last {
-        let sure = |task: &Task| task.set == 1 << r && task.origin.1 <= i && i < task.end.0;
-        let possible = task.set >> r & 1 == 1 && task.origin.0 <= i && i < task.end.1;
         let mut others = 0;
         for (other, task) in tasks.iter().enumerate() {
             if other != place {
                 others += hope(task, r, i);
             }
         }
-        let some_sure = tasks.iter().any(sure);
-        if some_sure && others + hope(&task, r, i) < l {
+        let some_sure = tasks.iter().any(|task| is_sure(task, r, i));
+        let possible = is_possible(task, r, i);
+        if some_sure && others + hope(task, r, i) < l {
             return None;
         }
-        if some_sure && possible && task.height.1 > 0 && others < l {
-            set &= 1 << r;
-            origins.retain(|&value| i - task.duration.1 + 1 <= value && value <= i);
-            ends.retain(|&value| i + 1 <= value && value <= i + task.duration.1);
+        if some_sure && possible && task.height.high > 0 && others < l {
+            left.need(task, r, i);
         }
-        if possible && others + task.height.1 < l {
-            if task.origin.1 <= i && i < task.end.0 {
-                set &= !(1 << r);
-            }
-            if task.set == 1 << r {
-                let low = task.duration.0;
-                origins.retain(|&value| !(i - low + 1 <= value && value <= i));
-                ends.retain(|&value| !(i + 1 <= value && value <= i + low));
-                let most = (i - task.origin.0).max(task.end.1 - i - 1);
-                durations.retain(|&value| value <= most);
-            }
+        if possible && others + task.height.high < l {
+            left.bar(task, r, i);
         }
-        if sure(&task) {
-            heights.retain(|&value| value >= l - others);
+        if is_sure(task, r, i) {
+            left.heights.retain(|&v| v >= l - others);
         }
     }
-    let (origin, duration) = (hull(&origins)?, hull(&durations)?);
-    let (end, height) = (hull(&ends)?, hull(&heights)?);
-    (set != 0).then_some(Task {
-        set,
-        origin,
-        duration,
-        end,
-        height,
-    })
-}
-
-fn negated(plan: &Plan) -> Plan {
-    let mut plan = plan.clone();
-    plan.resources
-        .iter_mut()
-        .for_each(|resource| resource.limit = -resource.limit);
-    plan.tasks
-        .iter_mut()
-        .for_each(|task| task.height = (-task.height.1, -task.height.0));
-    plan
+    left.task()
 }
 
 /// None if there is no plan.
 fn plainest_step(plan: &Plan, r: usize) -> Option<Plan> {
     if plan.sense == Sense::AtMost {
-        let turned = Plan {
-            sense: Sense::AtLeast,
-            ..negated(plan)
-        };
-        return plainest_step(&turned, r).map(|turned| Plan {
-            sense: Sense::AtMost,
-            ..negated(&turned)
-        });
+        return plainest_step(&plan.negated(), r).map(|stepped| stepped.negated());
     }
     let limit = plan.resources[r].limit;
     let tasks: Option<Vec<Task>> = (0..plan.tasks.len())
@@ -115,6 +126,7 @@ fn plainest_step(plan: &Plan, r: usize) -> Option<Plan> {
     })
 }
 
+/// Every resource step of the plan both ways; true if one changed it.
 fn compare(plan: &Plan) -> bool {
     let mut changed = false;
     for r in 0..plan.resources.len() {
@@ -137,24 +149,20 @@ fn the_resource_step_equals_its_plainest_form() {
     assert!(changed > 300, "{changed}");
 }
 
+/// Few tasks, days and heights: every value is listed for every task.
+fn is_small(plan: &Plan) -> bool {
+    let few_values =
+        |task: &Task| task.end.high - task.origin.low < 200 && task.height.count() <= 100;
+    plan.tasks.len() < 50 && plan.tasks.iter().all(few_values)
+}
+
 #[test]
 fn the_same_on_a_made_stream() {
     let mut changed = 0;
     for n in 0..1_500 {
-        let Ok(plan) = second::file::read(&second::make::plan_file(5, n), 16, 256) else {
-            continue;
-        };
-        let days = plan
-            .tasks
-            .iter()
-            .map(|task| task.end.1 - task.origin.0)
-            .max()
-            .unwrap_or(0);
-        if days < 200
-            && plan.tasks.len() < 50
-            && plan.tasks.iter().all(|t| t.height.1 - t.height.0 < 100)
-        {
-            changed += u32::from(compare(&plan));
+        match file::read(&make::plan_file(5, n)) {
+            Ok(plan) if is_small(&plan) => changed += u32::from(compare(&plan)),
+            _ => (),
         }
     }
     assert!(changed > 200, "{changed}");

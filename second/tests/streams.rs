@@ -4,9 +4,9 @@
 mod support;
 
 use second::fault::FAULTS;
-use second::file::{read, write, LONGEST};
+use second::file::{self, read, read_with_room, write};
 use second::make::{plan_file, stream};
-use second::program::answer;
+use second::program::{answer, READ_AT_MOST};
 use second::random::Random;
 use std::collections::BTreeMap;
 use support::small_plan;
@@ -21,9 +21,12 @@ fn what_is_written_reads_back() {
         let mut buffer = vec![9; 300];
         let length = write(&plan, &mut buffer).unwrap();
         let (resources, tasks) = (plan.resources.len(), plan.tasks.len());
-        assert_eq!(length, 6 + 10 * resources + 36 * tasks);
+        assert_eq!(length, file::length(resources, tasks));
         assert!(buffer[length..].iter().all(|byte| *byte == 9));
-        assert_eq!(read(&buffer[..length], resources, tasks), Ok(plan));
+        assert_eq!(
+            read_with_room(&buffer[..length], resources, tasks),
+            Ok(plan)
+        );
     }
 }
 
@@ -32,7 +35,7 @@ fn what_is_read_writes_the_same_bytes() {
     let mut sound = 0;
     for n in 0..COUNT {
         let file = plan_file(SEED, n);
-        let Ok(plan) = read(&file, 16, 256) else {
+        let Ok(plan) = read(&file) else {
             continue;
         };
         let mut buffer = vec![0; file.len()];
@@ -56,13 +59,13 @@ fn a_stream_is_broad() {
     let mut longest = 0;
     for n in 0..COUNT {
         let file = plan_file(SEED, n);
-        assert!(file.len() <= LONGEST + 1);
+        assert!(file.len() <= READ_AT_MOST);
         longest = longest.max(file.len());
         let answer = answer(&file, None);
         let head: Vec<&str> = answer.lines().next().unwrap().split(' ').collect();
         *heads.entry(format!("{} {}", head[0], head[1])).or_default() += 1;
     }
-    assert_eq!(longest, LONGEST + 1);
+    assert_eq!(longest, READ_AT_MOST);
     for number in [1, 2, 3, 4, 5, 6, 8, 9] {
         assert!(
             heads.contains_key(&format!("refused {number}")),
@@ -85,7 +88,7 @@ fn every_planted_fault_changes_answers() {
     for (name, fault) in FAULTS {
         let differs = |n: &u64| {
             let file = plan_file(SEED, *n);
-            answer(&file, None) != answer(&file, Some(fault))
+            answer(&file, None) != answer(&file, Some(*fault))
         };
         let changed = (0..COUNT).filter(differs).count();
         assert!(changed > 5, "{name}: {changed}");

@@ -1,2 +1,2 @@
 -- What a call on arrays promises.
-pub mod Runs
+pub mod Applies

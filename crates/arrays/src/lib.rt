@@ -1,40 +1,39 @@
-// The calls on lists that are loaded into arrays: the first 16 resources and 256 tasks of each, and how many there are in truth.
+// The calls on lists that are loaded into arrays: the first places of each, and how many there are in truth.
 ghost use mathlib.Core.Path.{_≡_};
 ghost use mathlib.Core.Bool.{true};
-ghost use mathlib.Core.List.{List, _++_};
 ghost use Prim.Native.Nat.{_≤_, min};
-ghost use lib.ListN.{length, take, drop};
+ghost use lib.ListN.{length, take};
+ghost use Rattle.plan.specs.declared.Checked.the-variants.{Accepted};
 ghost use Rattle.plan.specs.declared.Resource.{Resource};
 ghost use Rattle.plan.specs.declared.Task.{Task};
-ghost use Rattle.rules.specs.Calls.{check, mostResources, mostTasks};
-ghost use Rattle.rules.specs.Calls.Checked.{Accepted};
-ghost use Rattle.rows.specs.View.{tasksOf, resourcesOf};
-ghost use Rattle.engine.specs.Answers.{resultOf};
-ghost use Rattle.engine.specs.Calls.{callOf, placedIn};
-ghost use Rattle.arrays.specs.Runs.{Runs};
-use engine::Call;
-use entry::Entry;
+ghost use Rattle.plan.specs.Tasks.{mostResources, mostTasks};
+ghost use Rattle.rules.specs.Calls.{check, placedIn};
+ghost use Rattle.rows.specs.View.{tasksOf, resourcesOf, frameOf, atLeast};
+ghost use Rattle.passes.specs.Ready.{AnsweredRows};
+ghost use Rattle.arrays.specs.Applies.{AppliesRows, Applies};
+use copies::fewer_of;
 use plan::Answer;
+use plan::Call;
+use plan::Checked;
+use plan::MOST_RESOURCES;
+use plan::MOST_TASKS;
 use plan::Refusal;
 use plan::Resource;
 use plan::Sense;
 use plan::Task;
+use profile::MOST_KEYS;
+use profile::MOST_SPARE;
+use profile::MOST_STRETCHES;
+use rows::RESOURCE_CELLS;
+use rows::ResourceRow;
+use rows::TASK_CELLS;
+use rows::TaskRow;
+use stretches::STRETCH_CELLS;
 
-// An answer, the array of tasks, and how many of its first places are to be stored in the caller's list.
-pub struct Ran {
-    pub answer: Answer,
-    pub list: [Task; 256],
-    pub stored: usize,
-}
+// ---- records in arrays, and in rows
 
-fn fewer_of(a: usize, b: usize) -> usize
-    ensures { λ r. ⌜ r ≡ min a b ⌝ }
-{
-    if a < b { a } else { b }
-}
-
-pub fn pack_resources(resources: [Resource; 16], q: &mut [[i64; 2]])
-    requires { ⌜ length (now q) ≤ 16 ⌝ }
+pub fn pack_resources(resources: [Resource; MOST_RESOURCES], q: &mut [ResourceRow])
+    requires { ⌜ length (now q) ≤ mostResources ⌝ }
     ensures { λ _. ⌜ resourcesOf (now (q .exit)) ≡ take (length (now (q .entry))) resources ⌝ }
 {
     let mut i: usize = 0;
@@ -45,8 +44,8 @@ pub fn pack_resources(resources: [Resource; 16], q: &mut [[i64; 2]])
     }
 }
 
-pub fn pack_tasks(tasks: [Task; 256], s: &mut [[i64; 9]])
-    requires { ⌜ length (now s) ≤ 256 ⌝ }
+pub fn pack_tasks(tasks: [Task; MOST_TASKS], s: &mut [TaskRow])
+    requires { ⌜ length (now s) ≤ mostTasks ⌝ }
     ensures { λ _. ⌜ tasksOf (now (s .exit)) ≡ take (length (now (s .entry))) tasks ⌝ }
 {
     let mut i: usize = 0;
@@ -57,12 +56,27 @@ pub fn pack_tasks(tasks: [Task; 256], s: &mut [[i64; 9]])
     }
 }
 
-// The tasks of the rows in the array's first places.
-pub fn unpack_tasks(s: &[[i64; 9]], tasks: [Task; 256]) -> [Task; 256]
-    requires { ⌜ length (now s) ≤ 256 ⌝ }
-    ensures { λ r. ⌜ r ≡ tasksOf (now (s .entry)) ++ drop (length (now (s .entry))) tasks ⌝ }
+pub fn unpack_resources(q: &[ResourceRow]) -> [Resource; MOST_RESOURCES]
+    requires { ⌜ length (now q) ≤ mostResources ⌝ }
+    ensures { λ r. ⌜ take (length (now (q .entry))) r ≡ resourcesOf (now (q .entry)) ⌝ }
 {
-    let mut list = tasks;
+    let none = copies::no_resource();
+    let mut list = [none; MOST_RESOURCES];
+    let mut i: usize = 0;
+    while i < q.len() {
+        let resource = rows::resource_at(q, i);
+        list[i] = resource;
+        i += 1;
+    }
+    list
+}
+
+pub fn unpack_tasks(s: &[TaskRow]) -> [Task; MOST_TASKS]
+    requires { ⌜ length (now s) ≤ mostTasks ⌝ }
+    ensures { λ r. ⌜ take (length (now (s .entry))) r ≡ tasksOf (now (s .entry)) ⌝ }
+{
+    let none = copies::no_task();
+    let mut list = [none; MOST_TASKS];
     let mut i: usize = 0;
     while i < s.len() {
         let task = rows::task_at(s, i);
@@ -72,35 +86,44 @@ pub fn unpack_tasks(s: &[[i64; 9]], tasks: [Task; 256]) -> [Task; 256]
     list
 }
 
-// A call on rows that passed the checks, in buffers of our own.
-fn work_rows(c: Call, sense: Sense, q: &[[i64; 2]], s: &mut [[i64; 9]]) -> Answer
-    requires { ⌜ (check (resourcesOf (now q)) (tasksOf (now s)) ≡ Accepted) × (placedIn (length (now q)) c ≡ true) ⌝ }
-    ensures { λ r. ⌜ resultOf r (tasksOf (now (s .entry))) (tasksOf (now (s .exit))) ≡ callOf c sense (resourcesOf (now (q .entry))) (tasksOf (now (s .entry))) ⌝ }
-{
-    let mut keys = [0u64; 1024];
-    let mut spare = [0u64; 512];
-    let none = [0i64; 4];
-    let mut stretches = [none; 1025];
-    engine::worked(c, sense, q, s, &mut keys, &mut spare, &mut stretches)
+// ---- the calls
+
+// An answer, the array of tasks, and how many of its first places are to be stored in the caller's list.
+pub struct Applied {
+    pub answer: Answer,
+    pub list: [Task; MOST_TASKS],
+    pub stored: usize,
 }
 
-// A call on lists of so many resources and tasks, of which the rows hold the first 16 and 256.
-fn call_lists(
+// A call on rows that passed the checks, in buffers of our own.
+fn apply_checked(c: Call, sense: Sense, q: &mut [ResourceRow], s: &mut [TaskRow]) -> Answer
+    requires { ⌜ (placedIn (length (now q)) c ≡ true) × (check (atLeast (now q)) (tasksOf (now s)) ≡ Accepted) ⌝ }
+    ensures { λ a. ⌜ AnsweredRows c (frameOf sense (now (q .entry))) (now (s .entry)) a (now (s .exit)) ⌝ }
+{
+    let stretch = [0i64; STRETCH_CELLS];
+    let mut keys = [0u64; MOST_KEYS];
+    let mut spare = [0u64; MOST_SPARE];
+    let mut stretches = [stretch; MOST_STRETCHES];
+    engine::apply(c, sense, q, s, &mut keys, &mut spare, &mut stretches)
+}
+
+// A call on lists of so many resources and tasks, of which the rows hold the first places.
+fn apply_to_rows(
     c: Call,
     sense: Sense,
     resources: usize,
     tasks: usize,
-    q: &[[i64; 2]],
-    s: &mut [[i64; 9]],
+    q: &mut [ResourceRow],
+    s: &mut [TaskRow],
 ) -> Answer
     requires { ⌜ (length (now q) ≡ min resources mostResources) × (length (now s) ≡ min tasks mostTasks) ⌝ }
-    ensures { λ r. ⌜ ((qs : List Resource) (ts : List Task) → length qs ≡ resources → length ts ≡ tasks → (length qs ≤ mostResources → resourcesOf (now (q .entry)) ≡ qs) → (length ts ≤ mostTasks → tasksOf (now (s .entry)) ≡ ts) → resultOf r ts (tasksOf (now (s .exit))) ≡ callOf c sense qs ts) ⌝ }
+    ensures { λ a. ⌜ AppliesRows c sense resources tasks (now (q .entry)) (now (s .entry)) a (now (s .exit)) ⌝ }
 {
     match entry::check_lists(tasks, resources, q, s) {
-        Entry::Refused(f) => Answer::Refused(f),
-        Entry::Accepted => {
+        Checked::Refused(f) => Answer::Refused(f),
+        Checked::Accepted => {
             if engine::is_placed(c, resources) {
-                work_rows(c, sense, q, s)
+                apply_checked(c, sense, q, s)
             } else {
                 Answer::Refused(Refusal::NoSuchResource)
             }
@@ -109,54 +132,54 @@ fn call_lists(
 }
 
 // A call on arrays, in rows that are lent. "On each refusal, task lists and buffers keep their entry contents": nothing is to be stored.
-fn run_rows(
+fn apply_in_rows(
     c: Call,
     sense: Sense,
-    resources: [Resource; 16],
+    resources: [Resource; MOST_RESOURCES],
     resource_count: usize,
-    tasks: [Task; 256],
+    tasks: [Task; MOST_TASKS],
     task_count: usize,
-    q: &mut [[i64; 2]],
-    s: &mut [[i64; 9]],
-) -> Ran
+    q: &mut [ResourceRow],
+    s: &mut [TaskRow],
+) -> Applied
     requires { ⌜ (length (now q) ≡ min «resource_count» mostResources) × (length (now s) ≡ min «task_count» mostTasks) ⌝ }
-    ensures { λ r. ⌜ Runs c sense resources «resource_count» tasks «task_count» r ⌝ }
+    ensures { λ r. ⌜ Applies c sense resources «resource_count» tasks «task_count» r ⌝ }
 {
     pack_resources(resources, q);
     pack_tasks(tasks, s);
-    let answer = call_lists(c, sense, resource_count, task_count, q, s);
+    let answer = apply_to_rows(c, sense, resource_count, task_count, q, s);
     match answer {
-        Answer::Refused(f) => Ran {
+        Answer::Refused(f) => Applied {
             answer: Answer::Refused(f),
             list: tasks,
             stored: 0,
         },
-        Answer::Done(n) => Ran {
+        Answer::Done(n) => Applied {
             answer: Answer::Done(n),
-            list: unpack_tasks(s, tasks),
+            list: unpack_tasks(s),
             stored: task_count,
         },
     }
 }
 
 // A call on arrays that hold the first places of two lists.
-pub fn run_arrays(
+pub fn apply_to_arrays(
     c: Call,
     sense: Sense,
-    resources: [Resource; 16],
+    resources: [Resource; MOST_RESOURCES],
     resource_count: usize,
-    tasks: [Task; 256],
+    tasks: [Task; MOST_TASKS],
     task_count: usize,
-) -> Ran
-    ensures { λ r. ⌜ Runs c sense resources «resource_count» tasks «task_count» r ⌝ }
+) -> Applied
+    ensures { λ r. ⌜ Applies c sense resources «resource_count» tasks «task_count» r ⌝ }
 {
-    let resource = [0i64; 2];
-    let task = [0i64; 9];
-    let mut q = [resource; 16];
-    let mut s = [task; 256];
-    let n = fewer_of(resource_count, 16);
-    let m = fewer_of(task_count, 256);
-    run_rows(
+    let resource = [0i64; RESOURCE_CELLS];
+    let task = [0i64; TASK_CELLS];
+    let mut q = [resource; MOST_RESOURCES];
+    let mut s = [task; MOST_TASKS];
+    let n = fewer_of(resource_count, MOST_RESOURCES);
+    let m = fewer_of(task_count, MOST_TASKS);
+    apply_in_rows(
         c,
         sense,
         resources,

@@ -4,7 +4,7 @@ use mir.Syntax.{w64}
 use mir.Val.{SFits}
 use Rattle.integers.proofs.Z.{z, +z, -z}
 use Rattle.plan.specs.declared.Task.{Task}
-use Rattle.rows.specs.Fits.{Bounded}
+use Rattle.plan.specs.Tasks.{Bounded}
 
 module _ (t : Task) (b : Bounded t) where
   pub origin-low : SFits w64 (t .end .low .0 -ℤ t .duration .high .0)

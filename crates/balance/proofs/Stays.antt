@@ -11,7 +11,7 @@ use Rattle.plan.specs.declared.Task.{Task}
 use Rattle.plan.specs.declared.Narrowed.the-variants.{Kept}
 use Rattle.plan.specs.Days.{cutBelow, cutAbove, cutTo, emptySpan}
 use Rattle.rules.specs.Balance.{cuts, unlessEmpty, balanced}
-use Rattle.rows.specs.Fits.{Bounded}
+use Rattle.plan.specs.Tasks.{Bounded}
 use Rattle.balance.specs.Exact.{exact}
 
 -- ---- one range
@@ -40,9 +40,9 @@ exact-stays t f h =
     let y = t .end .high .0 in
     let low : x ≡ a +ℤ m = eqZ-is x (a +ℤ m) (and-first (eqZ x (a +ℤ m)) (eqZ y (b +ℤ n)) h) in
     let high : y ≡ b +ℤ n = eqZ-is y (b +ℤ n) (and-second (eqZ x (a +ℤ m)) (eqZ y (b +ℤ n)) h) in
-    let o = stays (x -ℤ n) (y -ℤ m) (t .origin) (omega (z, +z a m, -z x n)) (f .origin) (omega (z, +z b n, -z y m)) in
-    let d = stays (x -ℤ b) (y -ℤ a) (t .duration) (omega (z, +z a m, -z x b)) (f .duration) (omega (z, +z b n, -z y a)) in
-    let e = stays (a +ℤ m) (b +ℤ n) (t .end) (omega (z, +z a m)) (f .end) (omega (z, +z b n)) in
+    let o = stays (x -ℤ n) (y -ℤ m) (t .origin) (omega (z, +z a m, -z x n)) (f .origin .rises) (omega (z, +z b n, -z y m)) in
+    let d = stays (x -ℤ b) (y -ℤ a) (t .duration) (omega (z, +z a m, -z x b)) (f .duration .rises) (omega (z, +z b n, -z y a)) in
+    let e = stays (a +ℤ m) (b +ℤ n) (t .end) (omega (z, +z a m)) (f .end .rises) (omega (z, +z b n)) in
     let same : cuts t ≡ t = λ i. record { set = t .set; origin = o .same i; duration = d .same i; end = e .same i; height = t .height } in
     let kept : unlessEmpty t ≡ Kept t = rw (o .some, d .some, e .some) in
     ap unlessEmpty same ∙ kept

@@ -1,21 +1,22 @@
 // The balance step: origin + duration = end, each of the three cut to what the other two leave. Every cut is worked out from the
 // ranges as they entered.
 ghost use mathlib.Core.Path.{_≡_};
-ghost use mathlib.Core.Bool.{true};
 ghost use lib.IntN.{_+ℤ_};
 ghost use mir.Syntax.{w64};
 ghost use mir.Val.{SFits};
 ghost use Rattle.integers.specs.Whole.{eqZ};
+ghost use Rattle.integers.specs.Lists.{Each};
+ghost use Rattle.plan.specs.Tasks.{Bounded};
 ghost use Rattle.rules.specs.Balance.{cuts, unlessEmpty, balanced, balance};
 ghost use Rattle.rows.specs.View.{tasksOf};
-ghost use Rattle.rows.specs.Fits.{Bounded, AllBounded};
-ghost use Rattle.rows.specs.Changes.{outcomeOf, touchedBy};
+ghost use Rattle.rows.specs.Changes.{outcomeOf, Notes};
 ghost use Rattle.balance.specs.Exact.{exact};
 use plan::Day;
 use plan::Narrowed;
 use plan::Task;
 use plan::Value;
 use rows::Stepped;
+use rows::TaskRow;
 
 fn cut_task(t: Task) -> Task
     requires { ⌜ Bounded t ⌝ }
@@ -77,18 +78,14 @@ fn is_exact(t: Task) -> bool
     let o = t.origin;
     let d = t.duration;
     let e = t.end;
-    if is_sum(e.low, o.low, d.low) {
-        is_sum(e.high, o.high, d.high)
-    } else {
-        false
-    }
+    is_sum(e.low, o.low, d.low) && is_sum(e.high, o.high, d.high)
 }
 
 // "For every task", in place, up to the first of which nothing is left.
-pub fn balance(s: &mut [[i64; 9]]) -> Stepped
-    requires { ⌜ AllBounded (tasksOf (now s)) ⌝ }
-    ensures after { λ r. ⌜ outcomeOf (r .ok) (tasksOf (now (s .exit))) ≡ balance (tasksOf (now (s .entry))) ⌝ }
-    ensures noted { λ r. ⌜ (r .ok ≡ true → r .touched ≡ touchedBy (tasksOf (now (s .entry))) (tasksOf (now (s .exit)))) ⌝ }
+pub fn balance(s: &mut [TaskRow]) -> Stepped
+    requires { ⌜ Each Bounded (tasksOf (now s)) ⌝ }
+    ensures after { λ r. ⌜ outcomeOf r (tasksOf (now (s .exit))) ≡ balance (tasksOf (now (s .entry))) ⌝ }
+    ensures noted { λ r. ⌜ Notes r (tasksOf (now (s .entry))) (tasksOf (now (s .exit))) ⌝ }
 {
     let mut touched: u64 = 0;
     let mut i: usize = 0;

@@ -2,61 +2,55 @@
 -- nothing is refused), and what is left is the place of the refusal, or the pass count. So no two outcomes share an answer.
 use mathlib.Core.Path.{_≡_, refl, sym, ap, ap₂, _∙_, subst}
 use mathlib.Core.Bool.{not}
-use mathlib.Core.List.{List, [], _∷_}
-use Prim.Native.Nat.{ℕ, zero, suc, _/_, _%_, _≤_, _<_}
+use mathlib.Core.List.{List}
+use Prim.Native.Nat.{ℕ, _/_, _%_, _^_, _≤_, _<_}
 use native.Mathlib.Omega.{arith}
 use lib.Dec.{eqb, ltb}
 use lib.ListN.{length}
 use Rattle.integers.specs.Tests.{if}
 use Rattle.plan.specs.declared.Task.{Task}
-use Rattle.plan.specs.declared.Resource.{Resource}
-use Rattle.plan.specs.declared.Sense.{Sense}
+use Rattle.plan.specs.declared.Call.{Call}
+use Rattle.plan.specs.declared.Call.the-variants.{Check, Balance, Step, Pass, Settle}
+use Rattle.plan.specs.declared.Checked.{Checked}
 use Rattle.plan.specs.declared.Refusal.{Refusal}
 use Rattle.plan.specs.declared.Refusal.the-variants.{TooManyTasks, ResourceCount, RepeatedIdentifier, LimitOutside, RangeOutside, SetOutside, NoPlan, WrongMark, CutShort, BufferShort, ListShort, NoSuchResource}
 use Rattle.plan.specs.declared.Answer.{Answer}
 use Rattle.plan.specs.declared.Answer.the-variants.{Done, Refused}
 use Rattle.plan.specs.Refusals.{number, place}
-use Rattle.rules.specs.Allowed.{limitOn}
+use Rattle.rules.specs.Frame.{Frame, resourceCount}
 use Rattle.rules.specs.Balance.{Outcome, balance}
 use Rattle.rules.specs.Step.{resourceStep}
 use Rattle.rules.specs.Settle.{Settled, pass, settle}
-use Rattle.rules.specs.Calls.{Checked, refuseIf, check, mostResources, mostTasks, Result, stepped, settled, checkCall, balanceCall, stepAt, stepCall, passCall, settleCall}
-use Rattle.rules.proofs.Bounds.{PlacedTo, placed-if, placed-unless, settle-small}
-use Rattle.engine.specs.declared.Call.{Call}
-use Rattle.engine.specs.declared.Call.the-variants.{Check, Balance, Step, Pass, Settle}
-use Rattle.engine.specs.Calls.{callOf, placedIn}
+use Rattle.rules.specs.Calls.{orElse, refuseIf, check, Result, stepped, settled, unlessRefused, placedIn, answered, callOf}
+use Rattle.rules.proofs.Bounds.{PlacedTo, placed-then, placed-if, settle-small}
 use Rattle.format.specs.Reading.{Read, readPlan}
-use Rattle.format.specs.Writing.{written}
+use Rattle.format.specs.Writing.{written, roomFor}
+use Rattle.format.proofs.Files.{whole}
 use Rattle.format.proofs.Refusing.{read-place}
-use Rattle.calls.specs.Files.{FileResult, fileResult, answerNumber, answerFile, resultFile, unlessRefusedFile, lentFits, planCall, afterRead, fileCall, readNumber, checkFile}
-use Rattle.calls.proofs.Files.{got-accepted}
+use Rattle.calls.specs.Files.{FileResult, fileResult, answerNumber, answerFile, lentDue, planCall, afterRead, fileCall, readNumber, checkFile}
 
--- ---- what a call comes to, before it is made one number
-abbrev unlessUnfit : Checked → Answer → Answer
-unlessUnfit Checked.Accepted x = x
-unlessUnfit (Checked.Refuse f) x = Refused f
-
+-- ---- what a call comes to, before it is made one number: the reader's refusal; else 12 for a place or 10 for an output that is too short; else
+-- what the page's call answers
 abbrev readOutcome : Call → List ℕ → Read → Answer
-readOutcome c out (Read.Plan sense qs ts) = unlessUnfit (lentFits c qs (written sense qs ts) out) (callOf c sense qs ts .answer)
-readOutcome c out (Read.Refuse f) = Refused f
+readOutcome c out (Read.Plan f ts) = planCall c f ts out .answer
+readOutcome c out (Read.Refuse e) = Refused e
 
--- the reader's refusal; else 12 for a place or 10 for an output that is too short; else what the page's call answers
 abbrev pub fileOutcome : Call → List ℕ → List ℕ → Answer
-fileOutcome c file out = readOutcome c out (readPlan mostResources mostTasks file)
+fileOutcome c file out = readOutcome c out (readPlan file)
 
 abbrev entryOutcome : Read → Answer
-entryOutcome (Read.Plan sense qs ts) = Done 0
-entryOutcome (Read.Refuse f) = Refused f
+entryOutcome (Read.Plan f ts) = Done 0
+entryOutcome (Read.Refuse e) = Refused e
 
 abbrev pub checkOutcome : List ℕ → Answer
-checkOutcome file = entryOutcome (readPlan mostResources mostTasks file)
+checkOutcome file = entryOutcome (readPlan file)
 
 -- ---- an answer taken apart
 -- nothing is refused: the answer is the pass count, below 2^32, so its refusal number is 0; refused: the high half is the refusal's number
 -- (never 0, the law `number-some`), the low half its place
 abbrev pub Apart : ℕ → Answer → Type 0
-Apart answer (Done passes) = (answer ≡ passes) × (passes < 4294967296) × (answer / 4294967296 ≡ 0)
-Apart answer (Refused f) = (answer / 4294967296 ≡ number f) × (answer % 4294967296 ≡ place f)
+Apart answer (Done passes) = (answer ≡ passes) × (passes < 2 ^ 32) × (answer / 2 ^ 32 ≡ 0)
+Apart answer (Refused f) = (answer / 2 ^ 32 ≡ number f) × (answer % 2 ^ 32 ≡ place f)
 
 pub number-some : (f : Refusal) → 1 ≤ number f
 number-some TooManyTasks = omega arith
@@ -73,8 +67,8 @@ number-some ListShort = omega arith
 number-some NoSuchResource = omega arith
 
 abbrev Small : Answer → Type 0
-Small (Done passes) = passes < 4294967296
-Small (Refused f) = place f < 4294967296
+Small (Done passes) = passes < 2 ^ 32
+Small (Refused f) = place f < 2 ^ 32
 
 apart : (a : Answer) → Small a → Apart (answerNumber a) a
 apart (Done passes) h = (refl, h, omega arith)
@@ -85,85 +79,78 @@ stepped-small : (ts : List Task) (o : Outcome) → Small (stepped ts o .answer)
 stepped-small ts Outcome.NoPlan = omega arith
 stepped-small ts (Outcome.Plan us) = omega arith
 
-step-small : (sense : Sense) (r k : ℕ) (qs : List Resource) (ts : List Task) → Small (stepAt sense r k qs ts .answer)
-unfolding stepAt
-step-small sense r k [] ts = omega arith
-step-small sense r zero (q ∷ qs) ts = stepped-small ts (resourceStep sense r (limitOn q) ts)
-step-small sense r (suc k) (q ∷ qs) ts = step-small sense r k qs ts
-
-settled-small : (ts : List Task) (s : Settled) → ((k : ℕ) (us : List Task) → s ≡ Settled.After k us → k < 4294967296) → Small (settled ts s .answer)
+settled-small : (ts : List Task) (s : Settled) → ((k : ℕ) (us : List Task) → s ≡ Settled.After k us → k < 2 ^ 32) → Small (settled ts s .answer)
 settled-small ts Settled.Refused h = omega arith
 settled-small ts (Settled.After k us) h = h k us refl
 settled-small ts Settled.Unsettled h = omega arith
 
-call-small : (c : Call) (sense : Sense) (qs : List Resource) (ts : List Task) → check qs ts ≡ Checked.Accepted → Small (callOf c sense qs ts .answer)
-unfolding checkCall balanceCall stepCall passCall settleCall
-call-small Check sense qs ts ok = rw ok (omega arith)
-call-small Balance sense qs ts ok = rw ok (stepped-small ts (balance ts))
-call-small (Step p) sense qs ts ok = rw ok (step-small sense p p qs ts)
-call-small Pass sense qs ts ok = rw ok (stepped-small ts (pass sense qs ts))
-call-small Settle sense qs ts ok = rw ok (settled-small ts (settle sense qs ts) (settle-small sense qs ts ok))
+answered-small : (c : Call) (f : Frame) (ts : List Task) → check f ts ≡ Checked.Accepted → Small (answered c f ts .answer)
+answered-small Check f ts ok = omega arith
+answered-small Balance f ts ok = stepped-small ts (balance ts)
+answered-small (Step r) f ts ok = stepped-small ts (resourceStep f r ts)
+answered-small Pass f ts ok = stepped-small ts (pass f ts)
+answered-small Settle f ts ok = settled-small ts (settle f ts) (settle-small f ts ok)
 
-file-place : (file : List ℕ) (f : Refusal) → readPlan mostResources mostTasks file ≡ Read.Refuse f → place f < 4294967296
-file-place file f e = let a = read-place mostResources mostTasks file f e in omega arith
+unless-small : (k : Checked) (ts : List Task) (x : Result) → PlacedTo 0 k → Small (x .answer) → Small (unlessRefused k ts x .answer)
+unless-small Checked.Accepted ts x p h = h
+unless-small (Checked.Refused e) ts x p h = omega arith
 
-lent-placed : (c : Call) (qs : List Resource) (file out : List ℕ) → PlacedTo 0 (lentFits c qs file out)
-unfolding lentFits
-lent-placed c qs file out =
-    let short = ltb (length out) (length file) in
-    placed-unless 0 (not (placedIn (length qs) c)) NoSuchResource (refuseIf short BufferShort) (omega arith) (λ e. placed-if 0 short BufferShort (omega arith))
+call-small : (c : Call) (f : Frame) (ts : List Task) → check f ts ≡ Checked.Accepted → Small (callOf c f ts .answer)
+unfolding callOf
+call-small c f ts ok =
+    let missing = not (placedIn (resourceCount f) c) in
+    rw ok (unless-small (refuseIf missing NoSuchResource) ts (answered c f ts) (placed-if 0 missing NoSuchResource (omega arith)) (answered-small c f ts ok))
 
-unless-small : (k : Checked) (x : Answer) → PlacedTo 0 k → Small x → Small (unlessUnfit k x)
-unless-small Checked.Accepted x p h = h
-unless-small (Checked.Refuse f) x p h = omega arith
+plan-small : (c : Call) (f : Frame) (ts : List Task) (out : List ℕ) → check f ts ≡ Checked.Accepted → Small (planCall c f ts out .answer)
+unfolding planCall lentDue roomFor
+plan-small c f ts out ok =
+    let missing = not (placedIn (resourceCount f) c) in
+    let short = ltb (length out) (length (written f ts)) in
+    unless-small (orElse (refuseIf missing NoSuchResource) (refuseIf short BufferShort)) ts (callOf c f ts)
+    (placed-then 0 (refuseIf missing NoSuchResource) (refuseIf short BufferShort) (placed-if 0 missing NoSuchResource (omega arith)) (λ e. placed-if 0 short BufferShort (omega arith)))
+    (call-small c f ts ok)
 
-outcome-small : (c : Call) (out : List ℕ) (x : Read) → ((sense : Sense) (qs : List Resource) (ts : List Task) → x ≡ Read.Plan sense qs ts → check qs ts ≡ Checked.Accepted) → ((f : Refusal) → x ≡ Read.Refuse f → place f < 4294967296) → Small (readOutcome c out x)
-outcome-small c out (Read.Plan sense qs ts) ok p =
-    unless-small (lentFits c qs (written sense qs ts) out) (callOf c sense qs ts .answer) (lent-placed c qs (written sense qs ts) out)
-    (call-small c sense qs ts (ok sense qs ts refl))
-outcome-small c out (Read.Refuse f) ok p = p f refl
+file-place : (file : List ℕ) (e : Refusal) → readPlan file ≡ Read.Refuse e → place e < 2 ^ 32
+file-place file e h = let a = read-place file e h in omega arith
 
-entry-small : (x : Read) → ((f : Refusal) → x ≡ Read.Refuse f → place f < 4294967296) → Small (entryOutcome x)
-entry-small (Read.Plan sense qs ts) p = omega arith
-entry-small (Read.Refuse f) p = p f refl
+outcome-small : (c : Call) (file out : List ℕ) (x : Read) → readPlan file ≡ x → Small (readOutcome c out x)
+outcome-small c file out (Read.Plan f ts) h = plan-small c f ts out (whole h .accepted)
+outcome-small c file out (Read.Refuse e) h = file-place file e h
+
+entry-small : (file : List ℕ) (x : Read) → readPlan file ≡ x → Small (entryOutcome x)
+entry-small file (Read.Plan f ts) h = omega arith
+entry-small file (Read.Refuse e) h = file-place file e h
 
 -- ---- the answer is the outcome's number
-result-number : (sense : Sense) (qs : List Resource) (out : List ℕ) (a : Answer) (us : List Task) → answerFile sense qs out a us .answer ≡ answerNumber a
-result-number sense qs out (Done n) us = refl
-result-number sense qs out (Refused f) us = refl
-
-unless-number : (k : Checked) (sense : Sense) (qs : List Resource) (out : List ℕ) (x : Result) → unlessRefusedFile k out (resultFile sense qs out x) .answer ≡ answerNumber (unlessUnfit k (x .answer))
-unless-number Checked.Accepted sense qs out x = result-number sense qs out (x .answer) (x .tasks)
-unless-number (Checked.Refuse f) sense qs out x = refl
+result-number : (f : Frame) (out : List ℕ) (a : Answer) (us : List Task) → answerFile f out a us .answer ≡ answerNumber a
+result-number f out (Done n) us = refl
+result-number f out (Refused e) us = refl
 
 read-number : (c : Call) (out : List ℕ) (x : Read) → afterRead c out x .answer ≡ answerNumber (readOutcome c out x)
-unfolding planCall
-read-number c out (Read.Plan sense qs ts) = unless-number (lentFits c qs (written sense qs ts) out) sense qs out (callOf c sense qs ts)
-read-number c out (Read.Refuse f) = refl
+read-number c out (Read.Plan f ts) = result-number f out (planCall c f ts out .answer) (planCall c f ts out .tasks)
+read-number c out (Read.Refuse e) = refl
 
 entry-number : (x : Read) → readNumber x ≡ answerNumber (entryOutcome x)
-entry-number (Read.Plan sense qs ts) = refl
-entry-number (Read.Refuse f) = refl
+entry-number (Read.Plan f ts) = refl
+entry-number (Read.Refuse e) = refl
 
 -- ---- so every answer can be taken apart
 pub call-apart : (c : Call) (file out : List ℕ) → Apart (fileCall c file out .answer) (fileOutcome c file out)
 unfolding fileCall
 call-apart c file out =
-    let x = readPlan mostResources mostTasks file in
-    subst (λ (n : ℕ). Apart n (readOutcome c out x)) (sym (read-number c out x))
-    (apart (readOutcome c out x) (outcome-small c out x (λ sense qs ts e. got-accepted mostResources mostTasks file e) (file-place file)))
+    subst (λ (n : ℕ). Apart n (fileOutcome c file out)) (sym (read-number c out (readPlan file)))
+    (apart (fileOutcome c file out) (outcome-small c file out (readPlan file) refl))
 
 pub check-apart : (file : List ℕ) → Apart (checkFile file) (checkOutcome file)
 unfolding checkFile
 check-apart file =
-    let x = readPlan mostResources mostTasks file in
-    subst (λ (n : ℕ). Apart n (entryOutcome x)) (sym (entry-number x)) (apart (entryOutcome x) (entry-small x (file-place file)))
+    subst (λ (n : ℕ). Apart n (checkOutcome file)) (sym (entry-number (readPlan file))) (apart (checkOutcome file) (entry-small file (readPlan file) refl))
 
 -- the same, case by case
-pub call-done : (c : Call) (file out : List ℕ) (passes : ℕ) → fileOutcome c file out ≡ Done passes → (fileCall c file out .answer ≡ passes) × (passes < 4294967296) × (fileCall c file out .answer / 4294967296 ≡ 0)
+pub call-done : (c : Call) (file out : List ℕ) (passes : ℕ) → fileOutcome c file out ≡ Done passes → (fileCall c file out .answer ≡ passes) × (passes < 2 ^ 32) × (fileCall c file out .answer / 2 ^ 32 ≡ 0)
 call-done c file out passes e = subst (Apart (fileCall c file out .answer)) e (call-apart c file out)
 
-pub call-refused : (c : Call) (file out : List ℕ) (f : Refusal) → fileOutcome c file out ≡ Refused f → (fileCall c file out .answer / 4294967296 ≡ number f) × (fileCall c file out .answer % 4294967296 ≡ place f)
+pub call-refused : (c : Call) (file out : List ℕ) (f : Refusal) → fileOutcome c file out ≡ Refused f → (fileCall c file out .answer / 2 ^ 32 ≡ number f) × (fileCall c file out .answer % 2 ^ 32 ≡ place f)
 call-refused c file out f e = subst (Apart (fileCall c file out .answer)) e (call-apart c file out)
 
 -- ---- and no two outcomes share an answer

@@ -1,3 +1,3 @@
--- Laws of the calls on plan files.
+-- Laws of calls on plan files, and of the numbers that they answer.
 pub mod Files
 pub mod Answers

@@ -2,27 +2,27 @@
 -- and 9 as each record is due, 1 and 2 after the first, then 3 to 6), then 12 for a place, 10 for an output shorter than the file, then 7.
 use mathlib.Core.Bool.{not}
 use mathlib.Core.List.{List}
-use Prim.Native.Nat.{ℕ, _+_, _*_, _%_}
-use lib.Dec.{ltb}
+use mathlib.Core.Path.{_≡_}
+use Prim.Native.Nat.{ℕ, _+_, _*_, _%_, _^_}
 use lib.ListN.{length}
 use Rattle.plan.specs.declared.Task.{Task}
-use Rattle.plan.specs.declared.Resource.{Resource}
-use Rattle.plan.specs.declared.Sense.{Sense}
+use Rattle.plan.specs.declared.Call.{Call}
+use Rattle.plan.specs.declared.Checked.{Checked}
 use Rattle.plan.specs.declared.Refusal.{Refusal}
-use Rattle.plan.specs.declared.Refusal.the-variants.{BufferShort, NoSuchResource}
+use Rattle.plan.specs.declared.Refusal.the-variants.{NoSuchResource}
 use Rattle.plan.specs.declared.Answer.{Answer}
 use Rattle.plan.specs.declared.Answer.the-variants.{Done, Refused}
 use Rattle.plan.specs.Refusals.{number, place}
-use Rattle.rules.specs.Calls.{Checked, orElse, refuseIf, Result, mostResources, mostTasks}
-use Rattle.engine.specs.declared.Call.{Call}
-use Rattle.engine.specs.Calls.{callOf, placedIn}
-use Rattle.format.specs.Reading.{Read, readPlan}
-use Rattle.format.specs.Writing.{written, laid}
+use Rattle.rules.specs.Frame.{Frame, resourceCount}
+use Rattle.rules.specs.Calls.{orElse, refuseIf, Result, unlessRefused, placedIn, callOf}
+use Rattle.format.specs.declared.Header.{Header}
+use Rattle.format.specs.Reading.{Read, readAfter, readPlan}
+use Rattle.format.specs.Writing.{written, laid, roomFor}
 
--- "the refusal number times 2^32 plus the place, or, for number 0, the pass count"; every place is below 2^32
+-- include/gristwaltz.h: the refusal number times 2^32 plus the place, or, for number 0, the pass count; every place is below 2^32
 abbrev pub answerNumber : Answer → ℕ
 answerNumber (Done n) = n
-answerNumber (Refused f) = number f * 4294967296 + place f % 4294967296
+answerNumber (Refused f) = number f * 2 ^ 32 + place f % 2 ^ 32
 
 pub record FileResult : Type 0 where
   pub answer : ℕ
@@ -31,46 +31,45 @@ pub record FileResult : Type 0 where
 abbrev pub fileResult : ℕ → List ℕ → FileResult
 fileResult n out = record { answer = n; out = out }
 
--- "on each the whole of `out` is as it was"
+-- "On each refusal, task lists and buffers keep their entry contents."
 abbrev pub refusedFile : Refusal → List ℕ → FileResult
 refusedFile f out = fileResult (answerNumber (Refused f)) out
 
--- the length of a plan's file: PL 6, RS 10 and TK 36 bytes
-abbrev pub fileLength : ℕ → ℕ → ℕ
-fileLength resources tasks = 6 + resources * 10 + tasks * 36
+-- "the writer writes exactly the file's length"
+abbrev pub answerFile : Frame → List ℕ → Answer → List Task → FileResult
+answerFile f out (Done n) us = fileResult n (laid (written f us) out)
+answerFile f out (Refused e) us = refusedFile e out
 
--- "on success exactly the file's length of it is written"
-abbrev pub answerFile : Sense → List Resource → List ℕ → Answer → List Task → FileResult
-answerFile sense qs out (Done n) us = fileResult n (laid (written sense qs us) out)
-answerFile sense qs out (Refused f) us = refusedFile f out
+-- 12, then 10, of so many resources, a file of so many bytes and an output of so many
+unfoldable pub lentDue : Call → ℕ → ℕ → ℕ → Checked
+lentDue c resources file out = orElse (refuseIf (not (placedIn resources c)) NoSuchResource) (roomFor file out)
 
-abbrev pub resultFile : Sense → List Resource → List ℕ → Result → FileResult
-resultFile sense qs out x = answerFile sense qs out (x .answer) (x .tasks)
+-- the plan's file is the file that was read (the law `read-written` of crate format)
+unfoldable pub planCall : Call → Frame → List Task → List ℕ → Result
+planCall c f ts out = unlessRefused (lentDue c (resourceCount f) (length (written f ts)) (length out)) ts (callOf c f ts)
 
-abbrev pub unlessRefusedFile : Checked → List ℕ → FileResult → FileResult
-unlessRefusedFile Checked.Accepted out x = x
-unlessRefusedFile (Checked.Refuse f) out x = refusedFile f out
-
--- 12, then 10: the plan's file is the file that was read (the law `read-written` of crate format)
-unfoldable pub lentFits : Call → List Resource → List ℕ → List ℕ → Checked
-lentFits c qs file out =
-    orElse (refuseIf (not (placedIn (length qs) c)) NoSuchResource) (refuseIf (ltb (length out) (length file)) BufferShort)
-
-unfoldable pub planCall : Call → Sense → List Resource → List Task → List ℕ → FileResult
-planCall c sense qs ts out =
-    unlessRefusedFile (lentFits c qs (written sense qs ts) out) out (resultFile sense qs out (callOf c sense qs ts))
+abbrev pub planFile : Call → Frame → List Task → List ℕ → FileResult
+planFile c f ts out = answerFile f out (planCall c f ts out .answer) (planCall c f ts out .tasks)
 
 abbrev pub afterRead : Call → List ℕ → Read → FileResult
-afterRead c out (Read.Plan sense qs ts) = planCall c sense qs ts out
-afterRead c out (Read.Refuse f) = refusedFile f out
+afterRead c out (Read.Plan f ts) = planFile c f ts out
+afterRead c out (Read.Refuse e) = refusedFile e out
+
+-- of a file whose header was read
+abbrev pub headerCall : Call → Header → List ℕ → List ℕ → FileResult
+headerCall c h file out = afterRead c out (readAfter h file)
+
+-- a call's promise once the header was read: its answer, and what it leaves of the output
+abbrev pub HeaderAnswered : Call → Header → List ℕ → List ℕ → ℕ → List ℕ → Type 0
+HeaderAnswered c h file out r left = fileResult r left ≡ headerCall c h file out
 
 unfoldable pub fileCall : Call → List ℕ → List ℕ → FileResult
-fileCall c file out = afterRead c out (readPlan mostResources mostTasks file)
+fileCall c file out = afterRead c out (readPlan file)
 
 -- whether a file is a plan that passes the entry checks
 abbrev pub readNumber : Read → ℕ
-readNumber (Read.Plan sense qs ts) = 0
-readNumber (Read.Refuse f) = answerNumber (Refused f)
+readNumber (Read.Plan f ts) = 0
+readNumber (Read.Refuse e) = answerNumber (Refused e)
 
 unfoldable pub checkFile : List ℕ → ℕ
-checkFile file = readNumber (readPlan mostResources mostTasks file)
+checkFile file = readNumber (readPlan file)

@@ -1,126 +1,144 @@
 // Calls on a plan file in memory, each with one number as its answer: what the functions for other languages do.
 ghost use mathlib.Core.Path.{_≡_};
-ghost use mathlib.Core.Bool.{true};
-ghost use Prim.Native.Nat.{_≤_, min};
+ghost use Prim.Native.Nat.{_≤_};
 ghost use lib.ListN.{length};
 ghost use Rattle.plan.specs.declared.Answer.the-variants.{Refused};
-ghost use Rattle.rules.specs.Calls.{check, mostResources, mostTasks};
-ghost use Rattle.rules.specs.Calls.Checked.{Accepted};
-ghost use Rattle.rows.specs.View.{tasksOf, resourcesOf};
-ghost use Rattle.step.specs.Asks.{Roomy};
-ghost use Rattle.format.specs.Reading.{headerIn};
-ghost use Rattle.engine.specs.Calls.{callOf, placedIn};
-ghost use Rattle.calls.specs.Files.{answerNumber, fileLength, fileResult, resultFile, planCall, fileCall, checkFile};
-use engine::Call;
-use format::ReadAnswer;
+ghost use Rattle.plan.specs.Tasks.{mostResources, mostTasks};
+ghost use Rattle.rows.specs.View.{tasksOf, frameOf};
+ghost use Rattle.profile.specs.Lent.{Lent};
+ghost use Rattle.passes.specs.Ready.{Ready};
+ghost use Rattle.format.specs.Format.{fileLength};
+ghost use Rattle.calls.specs.Files.{answerNumber, fileResult, lentDue, planFile, HeaderAnswered, fileCall, checkFile};
+ghost use Rattle.calls.specs.Rows.{Counted, small, middle, wide};
+use events::EVENTS_A_TASK;
+use format::Header;
+use format::HeaderAnswer;
+use format::table;
 use plan::Answer;
+use plan::Call;
+use plan::Checked;
+use plan::MOST_RESOURCES;
+use plan::MOST_TASKS;
 use plan::Refusal;
 use plan::Sense;
+use profile::MOST_KEYS;
+use profile::MOST_SPARE;
+use profile::MOST_STRETCHES;
+use rows::RESOURCE_CELLS;
+use rows::ResourceRow;
+use rows::TASK_CELLS;
+use rows::TaskRow;
+use stretches::STRETCH_CELLS;
+use stretches::StretchRow;
 
-// The refusal number times 2^32 plus the place.
+// include/gristwaltz.h: the refusal number times 2^32 plus the place.
+pub const PLACES: u64 = 1 << 32;
+
 fn refusal_number(f: Refusal) -> u64
     ensures { λ r. ⌜ r ≡ answerNumber (Refused f) ⌝ }
 {
-    f.number() * 4_294_967_296 + (f.place() % 4_294_967_296) as u64
+    f.number() * PLACES + (f.place() as u64) % PLACES
 }
 
-// A call on a plan that passed the checks, with room for its file in out.
-fn work_plan(
+// 12 for a place, 10 for an output shorter than the file.
+fn check_lent(c: Call, resources: usize, tasks: usize, out: usize) -> Checked
+    requires { ⌜ (resources ≤ mostResources) × (tasks ≤ mostTasks) ⌝ }
+    ensures { λ r. ⌜ r ≡ lentDue c resources (fileLength resources tasks) out ⌝ }
+{
+    if !engine::is_placed(c, resources) {
+        return Checked::Refused(Refusal::NoSuchResource);
+    }
+    writer::room_for(resources, tasks, out)
+}
+
+// A call on a plan that passed the checks.
+fn apply_to_plan(
     c: Call,
     sense: Sense,
-    q: &[[i64; 2]],
-    s: &mut [[i64; 9]],
+    q: &mut [ResourceRow],
+    s: &mut [TaskRow],
     keys: &mut [u64],
     spare: &mut [u64],
-    ss: &mut [[i64; 4]],
+    ss: &mut [StretchRow],
     out: &mut [u8],
 ) -> u64
-    requires { ⌜ (check (resourcesOf (now q)) (tasksOf (now s)) ≡ Accepted) × (placedIn (length (now q)) c ≡ true) × (fileLength (length (now q)) (length (now s)) ≤ length (now out)) ⌝ }
-    requires { ⌜ Roomy (length (now s)) (length (now keys)) (length (now spare)) (length (now ss)) ⌝ }
-    ensures { λ r. ⌜ fileResult r (now (out .exit)) ≡ resultFile sense (resourcesOf (now (q .entry))) (now (out .entry)) (callOf c sense (resourcesOf (now (q .entry))) (tasksOf (now (s .entry)))) ⌝ }
+    requires { ⌜ Ready (now q) (now s) (now keys) (now spare) (now ss) ⌝ }
+    ensures { λ r. ⌜ fileResult r (now (out .exit)) ≡ planFile c (frameOf sense (now (q .entry))) (tasksOf (now (s .entry))) (now (out .entry)) ⌝ }
 {
-    let answer = engine::worked(c, sense, q, s, keys, spare, ss);
-    match answer {
-        Answer::Refused(f) => refusal_number(f),
-        Answer::Done(n) => {
-            writer::put_plan(sense, q, s, out);
-            n
+    match check_lent(c, q.len(), s.len(), out.len()) {
+        Checked::Refused(f) => refusal_number(f),
+        Checked::Accepted => match engine::apply(c, sense, q, s, keys, spare, ss) {
+            Answer::Refused(f) => refusal_number(f),
+            Answer::Done(n) => {
+                writer::put_plan(sense, q, s, out);
+                n
+            }
+        },
+    }
+}
+
+// A call on a plan file whose header was read, in rows for what it counts.
+fn apply_in_rows(
+    c: Call,
+    file: &[u8],
+    h: Header,
+    q: &mut [ResourceRow],
+    s: &mut [TaskRow],
+    keys: &mut [u64],
+    spare: &mut [u64],
+    ss: &mut [StretchRow],
+    out: &mut [u8],
+) -> u64
+    requires { ⌜ (h .resources ≤ length (now q)) × (h .tasks ≤ length (now s)) ⌝ }
+    requires { ⌜ Lent (length (now s)) (length (now keys)) (length (now spare)) (length (now ss)) ⌝ }
+    ensures { λ r. ⌜ HeaderAnswered c h (now (file .entry)) (now (out .entry)) r (now (out .exit)) ⌝ }
+{
+    match file::read_rest(file, h, q, s) {
+        Checked::Refused(f) => refusal_number(f),
+        Checked::Accepted => {
+            let n = h.resources;
+            let m = h.tasks;
+            apply_to_plan(
+                c,
+                table::sense_from(h.sense),
+                &mut q[..n],
+                &mut s[..m],
+                keys,
+                spare,
+                ss,
+                out,
+            )
         }
     }
 }
 
-// 12 for a place, 10 for an output shorter than the file, then the call.
-fn call_plan(
-    c: Call,
-    sense: Sense,
-    q: &[[i64; 2]],
-    s: &mut [[i64; 9]],
-    keys: &mut [u64],
-    spare: &mut [u64],
-    ss: &mut [[i64; 4]],
-    out: &mut [u8],
-) -> u64
-    requires { ⌜ check (resourcesOf (now q)) (tasksOf (now s)) ≡ Accepted ⌝ }
-    requires { ⌜ Roomy (length (now s)) (length (now keys)) (length (now spare)) (length (now ss)) ⌝ }
-    ensures { λ r. ⌜ fileResult r (now (out .exit)) ≡ planCall c sense (resourcesOf (now (q .entry))) (tasksOf (now (s .entry))) (now (out .entry)) ⌝ }
-{
-    if !engine::is_placed(c, q.len()) {
-        return refusal_number(Refusal::NoSuchResource);
-    }
-    let file = 6 + q.len() * 10 + s.len() * 36;
-    if out.len() < file {
-        return refusal_number(Refusal::BufferShort);
-    }
-    work_plan(c, sense, q, s, keys, spare, ss, out)
-}
+// ---- rows as the header asks: clearing rows that a small plan never uses would be most of its time. The four functions differ in their
+// array lengths alone, which the language can't take as a parameter.
 
-// A call on a plan file in lent rows: as many as the largest plan's, or as the file's header counts.
-fn call_lent(
-    c: Call,
-    file: &[u8],
-    q: &mut [[i64; 2]],
-    s: &mut [[i64; 9]],
-    keys: &mut [u64],
-    spare: &mut [u64],
-    ss: &mut [[i64; 4]],
-    out: &mut [u8],
-) -> u64
-    requires { ⌜ (mostResources ≤ length (now q)) × (length (now s) ≤ mostTasks) × (min (headerIn (now file) .tasks) mostTasks ≤ length (now s)) ⌝ }
-    requires { ⌜ Roomy (length (now s)) (length (now keys)) (length (now spare)) (length (now ss)) ⌝ }
-    ensures { λ r. ⌜ fileResult r (now (out .exit)) ≡ fileCall c (now (file .entry)) (now (out .entry)) ⌝ }
-{
-    let answer = file::reader::read_plan(file, 16, s.len(), q, s);
-    match answer {
-        ReadAnswer::Refused(f) => refusal_number(f),
-        ReadAnswer::Plan(sense, n, m) => call_plan(
-            c,
-            sense,
-            &q[..n],
-            &mut s[..m],
-            keys,
-            spare,
-            ss,
-            out,
-        ),
-    }
-}
+pub const SMALL: usize = 16;
 
-// Rows for 16 tasks: clearing rows that a small plan never uses would be most of its time.
-fn call_small(c: Call, file: &[u8], out: &mut [u8]) -> u64
-    requires { ⌜ headerIn (now file) .tasks ≤ 16 ⌝ }
-    ensures { λ r. ⌜ fileResult r (now (out .exit)) ≡ fileCall c (now (file .entry)) (now (out .entry)) ⌝ }
+pub const SMALL_KEYS: usize = SMALL * EVENTS_A_TASK;
+
+pub const SMALL_SPARE: usize = SMALL_KEYS / 2;
+
+pub const SMALL_STRETCHES: usize = SMALL_KEYS + 1;
+
+fn apply_small(c: Call, file: &[u8], h: Header, out: &mut [u8]) -> u64
+    requires { ⌜ Counted h small ⌝ }
+    ensures { λ r. ⌜ HeaderAnswered c h (now (file .entry)) (now (out .entry)) r (now (out .exit)) ⌝ }
 {
-    let resource = [0i64; 2];
-    let task = [0i64; 9];
-    let stretch = [0i64; 4];
-    let mut resources = [resource; 16];
-    let mut tasks = [task; 16];
-    let mut keys = [0u64; 64];
-    let mut spare = [0u64; 32];
-    let mut stretches = [stretch; 65];
-    call_lent(
+    let resource = [0i64; RESOURCE_CELLS];
+    let task = [0i64; TASK_CELLS];
+    let stretch = [0i64; STRETCH_CELLS];
+    let mut resources = [resource; MOST_RESOURCES];
+    let mut tasks = [task; SMALL];
+    let mut keys = [0u64; SMALL_KEYS];
+    let mut spare = [0u64; SMALL_SPARE];
+    let mut stretches = [stretch; SMALL_STRETCHES];
+    apply_in_rows(
         c,
         file,
+        h,
         &mut resources,
         &mut tasks,
         &mut keys,
@@ -130,22 +148,30 @@ fn call_small(c: Call, file: &[u8], out: &mut [u8]) -> u64
     )
 }
 
-// Rows for 64 tasks.
-fn call_middle(c: Call, file: &[u8], out: &mut [u8]) -> u64
-    requires { ⌜ headerIn (now file) .tasks ≤ 64 ⌝ }
-    ensures { λ r. ⌜ fileResult r (now (out .exit)) ≡ fileCall c (now (file .entry)) (now (out .entry)) ⌝ }
+pub const MIDDLE: usize = 64;
+
+pub const MIDDLE_KEYS: usize = MIDDLE * EVENTS_A_TASK;
+
+pub const MIDDLE_SPARE: usize = MIDDLE_KEYS / 2;
+
+pub const MIDDLE_STRETCHES: usize = MIDDLE_KEYS + 1;
+
+fn apply_middle(c: Call, file: &[u8], h: Header, out: &mut [u8]) -> u64
+    requires { ⌜ Counted h middle ⌝ }
+    ensures { λ r. ⌜ HeaderAnswered c h (now (file .entry)) (now (out .entry)) r (now (out .exit)) ⌝ }
 {
-    let resource = [0i64; 2];
-    let task = [0i64; 9];
-    let stretch = [0i64; 4];
-    let mut resources = [resource; 16];
-    let mut tasks = [task; 64];
-    let mut keys = [0u64; 256];
-    let mut spare = [0u64; 128];
-    let mut stretches = [stretch; 257];
-    call_lent(
+    let resource = [0i64; RESOURCE_CELLS];
+    let task = [0i64; TASK_CELLS];
+    let stretch = [0i64; STRETCH_CELLS];
+    let mut resources = [resource; MOST_RESOURCES];
+    let mut tasks = [task; MIDDLE];
+    let mut keys = [0u64; MIDDLE_KEYS];
+    let mut spare = [0u64; MIDDLE_SPARE];
+    let mut stretches = [stretch; MIDDLE_STRETCHES];
+    apply_in_rows(
         c,
         file,
+        h,
         &mut resources,
         &mut tasks,
         &mut keys,
@@ -155,22 +181,30 @@ fn call_middle(c: Call, file: &[u8], out: &mut [u8]) -> u64
     )
 }
 
-// Rows for 128 tasks.
-fn call_wide(c: Call, file: &[u8], out: &mut [u8]) -> u64
-    requires { ⌜ headerIn (now file) .tasks ≤ 128 ⌝ }
-    ensures { λ r. ⌜ fileResult r (now (out .exit)) ≡ fileCall c (now (file .entry)) (now (out .entry)) ⌝ }
+pub const WIDE: usize = 128;
+
+pub const WIDE_KEYS: usize = WIDE * EVENTS_A_TASK;
+
+pub const WIDE_SPARE: usize = WIDE_KEYS / 2;
+
+pub const WIDE_STRETCHES: usize = WIDE_KEYS + 1;
+
+fn apply_wide(c: Call, file: &[u8], h: Header, out: &mut [u8]) -> u64
+    requires { ⌜ Counted h wide ⌝ }
+    ensures { λ r. ⌜ HeaderAnswered c h (now (file .entry)) (now (out .entry)) r (now (out .exit)) ⌝ }
 {
-    let resource = [0i64; 2];
-    let task = [0i64; 9];
-    let stretch = [0i64; 4];
-    let mut resources = [resource; 16];
-    let mut tasks = [task; 128];
-    let mut keys = [0u64; 512];
-    let mut spare = [0u64; 256];
-    let mut stretches = [stretch; 513];
-    call_lent(
+    let resource = [0i64; RESOURCE_CELLS];
+    let task = [0i64; TASK_CELLS];
+    let stretch = [0i64; STRETCH_CELLS];
+    let mut resources = [resource; MOST_RESOURCES];
+    let mut tasks = [task; WIDE];
+    let mut keys = [0u64; WIDE_KEYS];
+    let mut spare = [0u64; WIDE_SPARE];
+    let mut stretches = [stretch; WIDE_STRETCHES];
+    apply_in_rows(
         c,
         file,
+        h,
         &mut resources,
         &mut tasks,
         &mut keys,
@@ -180,21 +214,22 @@ fn call_wide(c: Call, file: &[u8], out: &mut [u8]) -> u64
     )
 }
 
-// Rows for every plan.
-fn call_large(c: Call, file: &[u8], out: &mut [u8]) -> u64
-    ensures { λ r. ⌜ fileResult r (now (out .exit)) ≡ fileCall c (now (file .entry)) (now (out .entry)) ⌝ }
+fn apply_large(c: Call, file: &[u8], h: Header, out: &mut [u8]) -> u64
+    requires { ⌜ Counted h mostTasks ⌝ }
+    ensures { λ r. ⌜ HeaderAnswered c h (now (file .entry)) (now (out .entry)) r (now (out .exit)) ⌝ }
 {
-    let resource = [0i64; 2];
-    let task = [0i64; 9];
-    let stretch = [0i64; 4];
-    let mut resources = [resource; 16];
-    let mut tasks = [task; 256];
-    let mut keys = [0u64; 1024];
-    let mut spare = [0u64; 512];
-    let mut stretches = [stretch; 1025];
-    call_lent(
+    let resource = [0i64; RESOURCE_CELLS];
+    let task = [0i64; TASK_CELLS];
+    let stretch = [0i64; STRETCH_CELLS];
+    let mut resources = [resource; MOST_RESOURCES];
+    let mut tasks = [task; MOST_TASKS];
+    let mut keys = [0u64; MOST_KEYS];
+    let mut spare = [0u64; MOST_SPARE];
+    let mut stretches = [stretch; MOST_STRETCHES];
+    apply_in_rows(
         c,
         file,
+        h,
         &mut resources,
         &mut tasks,
         &mut keys,
@@ -204,48 +239,63 @@ fn call_large(c: Call, file: &[u8], out: &mut [u8]) -> u64
     )
 }
 
-// Rows for n tasks, more than 64. It is called from two places, so that the compiler keeps these rows, 64 KB, out of the frame of every
-// smaller call: each call touches its whole frame, page by page.
-fn call_more(c: Call, n: usize, file: &[u8], out: &mut [u8]) -> u64
-    requires { ⌜ min (headerIn (now file) .tasks) mostTasks ≤ n ⌝ }
-    ensures { λ r. ⌜ fileResult r (now (out .exit)) ≡ fileCall c (now (file .entry)) (now (out .entry)) ⌝ }
+// Larger rows, for at least as many tasks as the header counts. It is called from two places, each with a number that the compiler can't know,
+// so that these rows, 64 KB for the most, stay out of the frame of every smaller call: each call touches its whole frame, page by page.
+fn apply_more(c: Call, least: usize, file: &[u8], h: Header, out: &mut [u8]) -> u64
+    requires { ⌜ Counted h mostTasks × (h .tasks ≤ least) ⌝ }
+    ensures { λ r. ⌜ HeaderAnswered c h (now (file .entry)) (now (out .entry)) r (now (out .exit)) ⌝ }
 {
-    if n <= 128 {
-        return call_wide(c, file, out);
+    if least <= WIDE {
+        return apply_wide(c, file, h, out);
     }
-    call_large(c, file, out)
+    apply_large(c, file, h, out)
 }
 
-// A call on a plan file, in rows as its header asks.
-pub fn call_file(c: Call, file: &[u8], out: &mut [u8]) -> u64
+fn apply_counted(c: Call, file: &[u8], h: Header, out: &mut [u8]) -> u64
+    requires { ⌜ Counted h mostTasks ⌝ }
+    ensures { λ r. ⌜ HeaderAnswered c h (now (file .entry)) (now (out .entry)) r (now (out .exit)) ⌝ }
+{
+    if h.tasks <= SMALL {
+        return apply_small(c, file, h, out);
+    }
+    if h.tasks <= MIDDLE {
+        return apply_middle(c, file, h, out);
+    }
+    let end = table::file_length(h.resources, h.tasks);
+    if file.len() < end {
+        // Cut short, so refused in any rows. The bytes that it should have are more than its tasks.
+        return apply_more(c, end, file, h, out);
+    }
+    apply_more(c, h.tasks, file, h, out)
+}
+
+// ---- the calls
+
+// A call on a plan file.
+pub fn apply_to_file(c: Call, file: &[u8], out: &mut [u8]) -> u64
     ensures { λ r. ⌜ fileResult r (now (out .exit)) ≡ fileCall c (now (file .entry)) (now (out .entry)) ⌝ }
 {
-    if file.len() < 6 {
-        // Refused in any rows. The sum is no constant: with one the compiler would make call_more a part of this function.
-        return call_more(c, 256 + file.len(), file, out);
+    match file::read_header(file) {
+        HeaderAnswer::Refused(f) => refusal_number(f),
+        HeaderAnswer::Counts(h) => apply_counted(c, file, h, out),
     }
-    let h = cursor::header_of(file);
-    let n = h.tasks;
-    if n <= 16 {
-        return call_small(c, file, out);
-    }
-    if n <= 64 {
-        return call_middle(c, file, out);
-    }
-    call_more(c, n, file, out)
 }
 
 // Whether a file is a plan that passes the entry checks.
 pub fn check_file(file: &[u8]) -> u64
     ensures { λ r. ⌜ r ≡ checkFile (now (file .entry)) ⌝ }
 {
-    let resource = [0i64; 2];
-    let task = [0i64; 9];
-    let mut resources = [resource; 16];
-    let mut tasks = [task; 256];
-    let answer = file::reader::read_plan(file, 16, 256, &mut resources, &mut tasks);
-    match answer {
-        ReadAnswer::Refused(f) => refusal_number(f),
-        ReadAnswer::Plan(_, _, _) => 0,
+    let resource = [0i64; RESOURCE_CELLS];
+    let task = [0i64; TASK_CELLS];
+    let mut resources = [resource; MOST_RESOURCES];
+    let mut tasks = [task; MOST_TASKS];
+    match file::read_header(file) {
+        HeaderAnswer::Refused(f) => refusal_number(f),
+        HeaderAnswer::Counts(h) => {
+            match file::read_rest(file, h, &mut resources, &mut tasks) {
+                Checked::Refused(f) => refusal_number(f),
+                Checked::Accepted => 0,
+            }
+        }
     }
 }

@@ -1,10 +1,11 @@
 -- The first places of a list laid over another, as the loops that load and store leave them.
-use mathlib.Core.Path.{_≡_, refl, ap, sym}
+use mathlib.Core.Path.{_≡_, refl, ap, sym, _∙_}
 use mathlib.Core.List.{List, [], _∷_, _++_}
 use Prim.Native.Nat.{ℕ, zero, suc, _≤_, min}
 use native.Mathlib.Omega.{arith}
 use native.Mathlib.Nat.{not-suc-le-zero, le-of-suc-le-suc, zero-min, min-zero, suc-min-suc}
-use lib.ListN.{length, take, drop, replicate}
+use lib.ListN.{length, take, drop, replicate, length-append, length-replicate}
+use lib.Seq.{take-at, take-take, length-take-le}
 use Rattle.integers.proofs.Loops.{over}
 use Rattle.copies.specs.Loaded.{firsts}
 
@@ -40,3 +41,17 @@ module _ {A : Type 0} where
     pub over-firsts : (n : ℕ) (ys : List A) → over (min (length ys) n) ys (replicate n d) ≡ firsts n d ys
     unfolding firsts
     over-firsts n ys = over-same n n ys (omega arith)
+
+    -- as many as are asked for, and a list that is not longer is had back from its first places
+    module _ (n : ℕ) (xs : List A) where
+      pub firsts-length : length (firsts n d xs) ≡ n
+      unfolding firsts
+      firsts-length = length-take-le n (xs ++ replicate n d) (omega (arith, length-append xs (replicate n d), length-replicate n d))
+
+      pub firsts-back : length xs ≤ n → take (length xs) (firsts n d xs) ≡ xs
+      unfolding firsts
+      firsts-back h = take-take (length xs) n (xs ++ replicate n d) h ∙ take-at xs (replicate n d) (length xs) refl
+
+      pub firsts-whole : length xs ≡ n → firsts n d xs ≡ xs
+      unfolding firsts
+      firsts-whole e = take-at xs (replicate n d) n e

@@ -3,27 +3,30 @@ ghost use mathlib.Core.Path.{_≡_};
 ghost use Prim.Native.Nat.{_≤_, min};
 ghost use mathlib.Core.List.{_++_};
 ghost use lib.ListN.{length, take, drop};
-ghost use Rattle.copies.specs.Loaded.{noTask, noResource, loadedTasks, loadedResources};
+ghost use Rattle.plan.specs.Tasks.{mostTasks, mostResources, noTask, noResource};
+ghost use Rattle.copies.specs.Loaded.{loadedTasks, loadedResources};
 use plan::Day;
+use plan::MOST_RESOURCES;
+use plan::MOST_TASKS;
 use plan::Power;
 use plan::PowerSpan;
 use plan::Resource;
 use plan::Span;
 use plan::Task;
 
-// The first 256 tasks of a list, and how many it has in truth.
+// The first tasks of a list, as many as a plan may have, and how many the list has in truth.
 pub struct Tasks {
-    pub list: [Task; 256],
+    pub list: [Task; MOST_TASKS],
     pub count: usize,
 }
 
-// The first 16 resources of a list, and how many it has in truth.
+// The first resources of a list, and how many the list has in truth.
 pub struct Resources {
-    pub list: [Resource; 16],
+    pub list: [Resource; MOST_RESOURCES],
     pub count: usize,
 }
 
-fn no_task() -> Task
+pub fn no_task() -> Task
     ensures { λ r. ⌜ r ≡ noTask ⌝ }
 {
     let d = Day(0);
@@ -39,14 +42,14 @@ fn no_task() -> Task
     }
 }
 
-fn no_resource() -> Resource
+pub fn no_resource() -> Resource
     ensures { λ r. ⌜ r ≡ noResource ⌝ }
 {
     let p = Power(0);
     Resource { id: 0, limit: p }
 }
 
-fn fewer_of(a: usize, b: usize) -> usize
+pub fn fewer_of(a: usize, b: usize) -> usize
     ensures { λ r. ⌜ r ≡ min a b ⌝ }
 {
     if a < b { a } else { b }
@@ -56,8 +59,8 @@ pub fn load_tasks(tasks: &[Task]) -> Tasks
     ensures { λ r. ⌜ r ≡ loadedTasks (now (tasks .entry)) ⌝ }
 {
     let none = no_task();
-    let mut list = [none; 256];
-    let n = fewer_of(tasks.len(), 256);
+    let mut list = [none; MOST_TASKS];
+    let n = fewer_of(tasks.len(), MOST_TASKS);
     let mut i: usize = 0;
     while i < n {
         list[i] = tasks[i];
@@ -73,8 +76,8 @@ pub fn load_resources(resources: &[Resource]) -> Resources
     ensures { λ r. ⌜ r ≡ loadedResources (now (resources .entry)) ⌝ }
 {
     let none = no_resource();
-    let mut list = [none; 16];
-    let n = fewer_of(resources.len(), 16);
+    let mut list = [none; MOST_RESOURCES];
+    let n = fewer_of(resources.len(), MOST_RESOURCES);
     let mut i: usize = 0;
     while i < n {
         list[i] = resources[i];
@@ -86,8 +89,8 @@ pub fn load_resources(resources: &[Resource]) -> Resources
     }
 }
 
-pub fn store_tasks(tasks: &mut [Task], list: [Task; 256], n: usize)
-    requires { ⌜ (n ≤ 256) × (n ≤ length (now tasks)) ⌝ }
+pub fn store_tasks(tasks: &mut [Task], list: [Task; MOST_TASKS], n: usize)
+    requires { ⌜ (n ≤ mostTasks) × (n ≤ length (now tasks)) ⌝ }
     ensures { λ _. ⌜ now (tasks .exit) ≡ take n list ++ drop n (now (tasks .entry)) ⌝ }
 {
     let mut i: usize = 0;
@@ -97,8 +100,8 @@ pub fn store_tasks(tasks: &mut [Task], list: [Task; 256], n: usize)
     }
 }
 
-pub fn store_resources(resources: &mut [Resource], list: [Resource; 16], n: usize)
-    requires { ⌜ (n ≤ 16) × (n ≤ length (now resources)) ⌝ }
+pub fn store_resources(resources: &mut [Resource], list: [Resource; MOST_RESOURCES], n: usize)
+    requires { ⌜ (n ≤ mostResources) × (n ≤ length (now resources)) ⌝ }
     ensures { λ _. ⌜ now (resources .exit) ≡ take n list ++ drop n (now (resources .entry)) ⌝ }
 {
     let mut i: usize = 0;

@@ -1,47 +1,45 @@
--- What the reader hands out at a place, and over a run of records.
+-- What the cursor hands out at a place, and what every answer but the record that is due becomes.
 use mathlib.Core.List.{List}
 use mathlib.Core.Bool.{Bool}
 use Prim.Native.Nat.{ℕ, _+_}
-use lib.Dec.{eqb, ltb}
-use lib.ListN.{length, getD, drop}
+use lib.Dec.{ltb}
+use lib.ListN.{length, drop}
 use Rattle.integers.specs.Tests.{if}
 use Rattle.plan.specs.declared.Refusal.{Refusal}
 use Rattle.plan.specs.declared.Refusal.the-variants.{WrongMark, CutShort}
-use Rattle.rules.specs.Calls.{Checked}
 use Rattle.format.specs.declared.Mark.{Mark}
 use Rattle.format.specs.declared.Mark.the-variants.{PL, RS, TK}
-use Rattle.format.specs.Format.{mark, size, numbersIn, headerFrom, resourceFrom, taskFrom}
-use Rattle.format.specs.Reading.{marked}
+use Rattle.format.specs.Format.{mark, markSize, marked, size, numbersIn, headerFrom, resourceFrom, taskFrom}
 use Rattle.cursor.specs.declared.Cursor.{Cursor}
 use Rattle.cursor.specs.declared.Record.{Record}
-use Rattle.cursor.specs.declared.Run.{Run}
 
 abbrev pub cursor : ℕ → Cursor
 cursor at = record { at = at }
 
--- the record, unless it is longer than the rest
-abbrev pub whole : Mark → List ℕ → Record → Record
-whole k bs r = if (ltb (length bs) (size k)) (Record.CutShort k) r
+-- the record that a mark announces, with the cursor past it
+abbrev pub recordIn : Mark → ℕ → List ℕ → Record
+recordIn PL at bs = Record.Plan (headerFrom (numbersIn PL bs)) (cursor (at + size PL))
+recordIn RS at bs = Record.Resource (resourceFrom (numbersIn RS bs)) (cursor (at + size RS))
+recordIn TK at bs = Record.Task (taskFrom (numbersIn TK bs)) (cursor (at + size TK))
 
--- what a mark announces
+-- unless it is longer than the rest
 abbrev pub recordOf : Mark → ℕ → List ℕ → Record
-recordOf PL at bs = whole PL bs (Record.Plan (headerFrom (numbersIn PL bs)) (cursor (at + size PL)))
-recordOf RS at bs = whole RS bs (Record.Resource (resourceFrom (numbersIn RS bs)) (cursor (at + size RS)))
-recordOf TK at bs = whole TK bs (Record.Task (taskFrom (numbersIn TK bs)) (cursor (at + size TK)))
+recordOf k at bs = if (ltb (length bs) (size k)) (Record.CutShort k) (recordIn k at bs)
+
+-- the mark that the bytes begin with, if with any
+unfoldable pub standing : List ℕ → Mark
+standing bs = if (marked PL bs) PL (if (marked RS bs) RS TK)
 
 unfoldable pub handed : ℕ → List ℕ → Record
 handed at bs =
-    if (ltb (length bs) 2) Record.Ended
-    (if (marked PL bs) (recordOf PL at bs)
-    (if (marked RS bs) (recordOf RS at bs)
-    (if (marked TK bs) (recordOf TK at bs) Record.NoMark)))
+    if (ltb (length bs) markSize) Record.Ended
+    (if (marked (standing bs) bs) (recordOf (standing bs) at bs) Record.NoMark)
 
 unfoldable pub recordAt : List ℕ → ℕ → Record
 recordAt file at = handed at (drop at file)
 
--- the three marks differ in their first byte
 abbrev pub sameMark : Mark → Mark → Bool
-sameMark j k = eqb (getD (mark j) 0 0) (getD (mark k) 0 0)
+sameMark j k = marked k (mark j)
 
 -- "each caller takes the record it is due and turns every other answer into the refusal"
 abbrev pub notDue : Mark → ℕ → Record → Refusal
@@ -51,8 +49,3 @@ notDue k at (Record.Plan h c) = WrongMark at
 notDue k at (Record.Resource q c) = WrongMark at
 notDue k at (Record.Task t c) = WrongMark at
 notDue k at Record.NoMark = WrongMark at
-
--- the cursor past a run, or the refusal
-abbrev pub through : Checked → Cursor → Run
-through Checked.Accepted c = Run.Through c
-through (Checked.Refuse f) c = Run.Refused f

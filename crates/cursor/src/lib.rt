@@ -1,24 +1,28 @@
 // A cursor stands in the lent file bytes and hands out one record after another: a place by value on the bytes.
 ghost use mathlib.Core.Path.{_≡_};
+ghost use mathlib.Core.Bool.{false};
+ghost use mathlib.Core.List.{[], _∷_};
 ghost use Prim.Native.Nat.{_+_, _≤_, _<_, _^_};
+ghost use lib.Dec.{ltb};
 ghost use lib.ListN.{length};
+ghost use Rattle.integers.specs.Tests.{if};
 ghost use Rattle.format.specs.declared.Mark.the-variants.{PL, RS, TK};
-ghost use Rattle.format.specs.Format.{size, numbersIn, headerFrom, resourceFrom, taskFrom};
-ghost use Rattle.format.specs.Reading.{marked};
-ghost use Rattle.cursor.specs.Handed.{cursor, whole, recordOf, handed, recordAt, sameMark, notDue};
+ghost use Rattle.format.specs.Format.{markSize, marked, size, numbersIn, headerFrom, resourceFrom, taskFrom};
+ghost use Rattle.cursor.specs.Handed.{recordOf, standing, handed, recordAt, sameMark, notDue};
 use format::Header;
 use format::Mark;
-use format::fields::day_at;
-use format::fields::first_byte;
+use format::fields::cell_at;
+use format::fields::days_at;
 use format::fields::id_at;
 use format::fields::one_at;
-use format::fields::power_at;
-use format::fields::second_byte;
+use format::fields::powers_at;
 use format::fields::two_at;
-use plan::PowerSpan;
+use format::table;
+use format::table::first_byte;
+use format::table::second_byte;
+use plan::Power;
 use plan::Refusal;
 use plan::Resource;
-use plan::Span;
 use plan::Task;
 
 // A place in the lent file bytes.
@@ -37,123 +41,95 @@ pub enum Record {
     Ended,
 }
 
-// What a run of records answers: the cursor past the last, or one refusal.
-pub enum Run {
-    Through(Cursor),
-    Refused(Refusal),
-}
-
 // What each record holds, where the bytes begin with it.
-pub fn header_of(b: &[u8]) -> Header
-    requires { ⌜ 6 ≤ length (now b) ⌝ }
+fn header_of(b: &[u8]) -> Header
+    requires { ⌜ size PL ≤ length (now b) ⌝ }
     ensures { λ r. ⌜ r ≡ headerFrom (numbersIn PL (now (b .entry))) ⌝ }
 {
     Header {
-        sense: b[2],
-        resources: one_at(b, 3) as usize,
-        tasks: two_at(b, 4) as usize,
+        sense: b[table::SENSE],
+        resources: one_at(b, table::RESOURCE_COUNT) as usize,
+        tasks: two_at(b, table::TASK_COUNT) as usize,
     }
 }
 
 fn resource_of(b: &[u8]) -> Resource
-    requires { ⌜ 10 ≤ length (now b) ⌝ }
+    requires { ⌜ size RS ≤ length (now b) ⌝ }
     ensures { λ r. ⌜ r ≡ resourceFrom (numbersIn RS (now (b .entry))) ⌝ }
 {
     Resource {
-        id: id_at(b, 2),
-        limit: power_at(b, 6),
+        id: id_at(b, table::IDENTIFIER),
+        limit: Power(cell_at(b, table::LIMIT)),
     }
 }
 
 fn task_of(b: &[u8]) -> Task
-    requires { ⌜ 36 ≤ length (now b) ⌝ }
+    requires { ⌜ size TK ≤ length (now b) ⌝ }
     ensures { λ r. ⌜ r ≡ taskFrom (numbersIn TK (now (b .entry))) ⌝ }
 {
     Task {
-        set: two_at(b, 2) as u64,
-        origin: Span {
-            low: day_at(b, 4),
-            high: day_at(b, 8),
-        },
-        duration: Span {
-            low: day_at(b, 12),
-            high: day_at(b, 16),
-        },
-        end: Span {
-            low: day_at(b, 20),
-            high: day_at(b, 24),
-        },
-        height: PowerSpan {
-            low: power_at(b, 28),
-            high: power_at(b, 32),
-        },
+        set: two_at(b, table::SET) as u64,
+        origin: days_at(b, table::ORIGIN),
+        duration: days_at(b, table::DURATION),
+        end: days_at(b, table::END),
+        height: powers_at(b, table::HEIGHT),
     }
 }
 
 // The two mark bytes are those of the mark.
-fn is_marked(k: Mark, b: &[u8]) -> bool
-    requires { ⌜ 2 ≤ length (now b) ⌝ }
-    ensures { λ r. ⌜ r ≡ marked k (now (b .entry)) ⌝ }
+fn are_mark(first: u8, second: u8, k: Mark) -> bool
+    ensures { λ r. ⌜ r ≡ marked k (first ∷ second ∷ []) ⌝ }
 {
-    if b[0] == first_byte(k) {
-        b[1] == second_byte(k)
-    } else {
-        false
-    }
+    first == first_byte(k) && second == second_byte(k)
 }
 
-// Each record, unless it is longer than the rest; the cursor past it.
+fn is_marked(k: Mark, b: &[u8]) -> bool
+    requires { ⌜ markSize ≤ length (now b) ⌝ }
+    ensures { λ r. ⌜ r ≡ marked k (now (b .entry)) ⌝ }
+{
+    are_mark(b[0], b[1], k)
+}
+
+// The record that each mark announces, with the cursor past it, unless it is longer than the rest.
 fn plan_record(at: usize, b: &[u8]) -> Record
     requires { ⌜ at + length (now b) < 2 ^ 64 ⌝ }
-    ensures { λ r. ⌜ r ≡ whole PL (now (b .entry)) (Record.Plan (headerFrom (numbersIn PL (now (b .entry)))) (cursor (at + size PL))) ⌝ }
+    ensures { λ r. ⌜ r ≡ recordOf PL at (now (b .entry)) ⌝ }
 {
-    if b.len() < 6 {
+    if b.len() < table::PL_SIZE {
         return Record::CutShort(Mark::PL);
     }
-    Record::Plan(header_of(b), Cursor { at: at + 6 })
+    let past = Cursor {
+        at: at + table::PL_SIZE,
+    };
+    Record::Plan(header_of(b), past)
 }
 
 fn resource_record(at: usize, b: &[u8]) -> Record
     requires { ⌜ at + length (now b) < 2 ^ 64 ⌝ }
-    ensures { λ r. ⌜ r ≡ whole RS (now (b .entry)) (Record.Resource (resourceFrom (numbersIn RS (now (b .entry)))) (cursor (at + size RS))) ⌝ }
+    ensures { λ r. ⌜ r ≡ recordOf RS at (now (b .entry)) ⌝ }
 {
-    if b.len() < 10 {
+    if b.len() < table::RS_SIZE {
         return Record::CutShort(Mark::RS);
     }
-    Record::Resource(resource_of(b), Cursor { at: at + 10 })
+    let past = Cursor {
+        at: at + table::RS_SIZE,
+    };
+    Record::Resource(resource_of(b), past)
 }
 
 fn task_record(at: usize, b: &[u8]) -> Record
     requires { ⌜ at + length (now b) < 2 ^ 64 ⌝ }
-    ensures { λ r. ⌜ r ≡ whole TK (now (b .entry)) (Record.Task (taskFrom (numbersIn TK (now (b .entry)))) (cursor (at + size TK))) ⌝ }
+    ensures { λ r. ⌜ r ≡ recordOf TK at (now (b .entry)) ⌝ }
 {
-    if b.len() < 36 {
+    if b.len() < table::TK_SIZE {
         return Record::CutShort(Mark::TK);
     }
-    Record::Task(task_of(b), Cursor { at: at + 36 })
+    let past = Cursor {
+        at: at + table::TK_SIZE,
+    };
+    Record::Task(task_of(b), past)
 }
 
-// What stands in the bytes from the place `at` on.
-fn handed(at: usize, b: &[u8]) -> Record
-    requires { ⌜ at + length (now b) < 2 ^ 64 ⌝ }
-    ensures { λ r. ⌜ r ≡ handed at (now (b .entry)) ⌝ }
-{
-    if b.len() < 2 {
-        return Record::Ended;
-    }
-    if is_marked(Mark::PL, b) {
-        return plan_record(at, b);
-    }
-    if is_marked(Mark::RS, b) {
-        return resource_record(at, b);
-    }
-    if is_marked(Mark::TK, b) {
-        return task_record(at, b);
-    }
-    Record::NoMark
-}
-
-// The record that a mark announces.
 fn record_of(k: Mark, at: usize, b: &[u8]) -> Record
     requires { ⌜ at + length (now b) < 2 ^ 64 ⌝ }
     ensures { λ r. ⌜ r ≡ recordOf k at (now (b .entry)) ⌝ }
@@ -165,17 +141,43 @@ fn record_of(k: Mark, at: usize, b: &[u8]) -> Record
     }
 }
 
-// What stands in the bytes, one mark looked for before the others: a run of records of that mark asks for no other.
-fn handed_due(k: Mark, at: usize, b: &[u8]) -> Record
+// The mark that stands there, if any does.
+fn standing(b: &[u8]) -> Mark
+    requires { ⌜ markSize ≤ length (now b) ⌝ }
+    ensures { λ k. ⌜ k ≡ standing (now (b .entry)) ⌝ }
+{
+    if is_marked(Mark::PL, b) {
+        return Mark::PL;
+    }
+    if is_marked(Mark::RS, b) {
+        return Mark::RS;
+    }
+    Mark::TK
+}
+
+// What stands in the bytes from the place `at` on.
+fn handed(at: usize, b: &[u8]) -> Record
     requires { ⌜ at + length (now b) < 2 ^ 64 ⌝ }
     ensures { λ r. ⌜ r ≡ handed at (now (b .entry)) ⌝ }
 {
-    if 2 <= b.len() {
-        if is_marked(k, b) {
-            return record_of(k, at, b);
-        }
+    if b.len() < table::MARK_SIZE {
+        return Record::Ended;
     }
-    handed(at, b)
+    let k = standing(b);
+    if is_marked(k, b) {
+        return record_of(k, at, b);
+    }
+    Record::NoMark
+}
+
+// Whether the mark that is due stands there.
+fn is_due(due: Mark, b: &[u8]) -> bool
+    ensures { λ r. ⌜ r ≡ if (ltb (length (now (b .entry))) markSize) false (marked due (now (b .entry))) ⌝ }
+{
+    if b.len() < table::MARK_SIZE {
+        return false;
+    }
+    is_marked(due, b)
 }
 
 impl Cursor {
@@ -190,22 +192,24 @@ impl Cursor {
         Record::Ended
     }
 
-    // The same record, found sooner where it is the one that is due.
-    pub fn next_due(self, k: Mark, file: &[u8]) -> Record
+    // The same record, found sooner where it is the one that is due: a run of records of one mark asks for no other.
+    pub fn next_due(self, due: Mark, file: &[u8]) -> Record
         ensures { λ r. ⌜ r ≡ recordAt (now (file .entry)) (self .at) ⌝ }
     {
         let at = self.at;
         if at < file.len() {
-            return handed_due(k, at, &file[at..]);
+            if is_due(due, &file[at..]) {
+                return record_of(due, at, &file[at..]);
+            }
         }
-        Record::Ended
+        self.next(file)
     }
 }
 
 fn same_mark(j: Mark, k: Mark) -> bool
     ensures { λ r. ⌜ r ≡ sameMark j k ⌝ }
 {
-    first_byte(j) == first_byte(k)
+    are_mark(first_byte(j), second_byte(j), k)
 }
 
 // "turns every other answer into the refusal": the place is where the record starts.
@@ -221,9 +225,6 @@ pub fn not_due(k: Mark, at: usize, got: Record) -> Refusal
                 Refusal::WrongMark(at)
             }
         }
-        Record::Plan(_, _) => Refusal::WrongMark(at),
-        Record::Resource(_, _) => Refusal::WrongMark(at),
-        Record::Task(_, _) => Refusal::WrongMark(at),
-        Record::NoMark => Refusal::WrongMark(at),
+        _ => Refusal::WrongMark(at),
     }
 }

@@ -1,9 +1,16 @@
-// Damaged plan files, the paper's number and place of each refusal on a line. The whole file is the paper's case 9: its records start
+// Damaged plan files, the page's number and place of each refusal on a line. The whole file is the page's case 9: its records start
 // at bytes 0, 6, 16, 26 and 62, and it ends at 98; a byte too many follows.
+ghost use Prim.Native.Nat.{_≤_};
+ghost use lib.ListN.{length};
+ghost use Rattle.plan.specs.Tasks.{mostResources, mostTasks};
 use format::ReadAnswer;
 use format::WriteAnswer;
 use plan::Refusal;
 use plan::Sense;
+use rows::RESOURCE_CELLS;
+use rows::ResourceRow;
+use rows::TASK_CELLS;
+use rows::TaskRow;
 
 fn show_refusal(f: Refusal) {
     io::write_all(1, b"refused ");
@@ -20,9 +27,7 @@ fn sense_byte(sense: Sense) -> u64 {
     }
 }
 
-// A file read into the lent lists.
-fn show_into(bytes: &[u8], q: &mut [[i64; 2]], s: &mut [[i64; 9]]) {
-    let answer = file::read(bytes, q, s);
+fn show_answer(answer: ReadAnswer) {
     match answer {
         ReadAnswer::Refused(f) => show_refusal(f),
         ReadAnswer::Plan(sense, n, m) => {
@@ -141,20 +146,33 @@ fn whole() -> [u8; 99] {
     ]
 }
 
-// The first n bytes of a file.
-fn read_first(n: usize, bytes: &[u8], q: &mut [[i64; 2]], s: &mut [[i64; 9]]) {
+// The first n bytes of a file, for lists of so many places, into rows for the largest plan.
+fn read_first(
+    n: usize,
+    bytes: &[u8],
+    places: usize,
+    room: usize,
+    q: &mut [ResourceRow],
+    s: &mut [TaskRow],
+)
+    requires { ⌜ (mostResources ≤ length (now q)) × (mostTasks ≤ length (now s)) ⌝ }
+{
     if n <= bytes.len() {
-        show_into(&bytes[..n], q, s);
+        show_answer(file::read_lent(&bytes[..n], places, room, q, s));
     }
 }
 
-// The same, into lists of three places.
+fn show_lent(n: usize, bytes: &[u8], places: usize, room: usize) {
+    let resource = [0i64; RESOURCE_CELLS];
+    let task = [0i64; TASK_CELLS];
+    let mut q = [resource; plan::MOST_RESOURCES];
+    let mut s = [task; plan::MOST_TASKS];
+    read_first(n, bytes, places, room, &mut q, &mut s);
+}
+
+// The same, for lists of three places.
 fn show_first(n: usize, bytes: &[u8]) {
-    let resource = [0i64; 2];
-    let task = [0i64; 9];
-    let mut q = [resource; 3];
-    let mut s = [task; 3];
-    read_first(n, bytes, &mut q, &mut s);
+    show_lent(n, bytes, 3, 3);
 }
 
 fn cut(n: usize) {
@@ -222,30 +240,19 @@ fn mark_before_length() {
     show_first(30, &f);
 }
 
-// The first places of two lists lent.
-fn show_lent(bytes: &[u8], n: usize, q: &mut [[i64; 2]], m: usize, s: &mut [[i64; 9]]) {
-    if n <= q.len() {
-        if m <= s.len() {
-            show_into(bytes, &mut q[..n], &mut s[..m]);
-        }
-    }
-}
-
 // 11: a list lent with one place too few.
 fn lists_short() {
     let f = whole();
-    let resource = [0i64; 2];
-    let task = [0i64; 9];
-    let mut q = [resource; 2];
-    let mut s = [task; 2];
-    show_lent(&f, 1, &mut q, 2, &mut s);
-    show_lent(&f, 2, &mut q, 1, &mut s);
+    show_lent(99, &f, 1, 2);
+    show_lent(99, &f, 2, 1);
 }
 
-// A buffer of n bytes, written and compared.
-fn write_first(n: usize, q: &[[i64; 2]], s: &[[i64; 9]], out: &mut [u8]) {
+// The plan's two resources and two tasks into a buffer of n bytes.
+fn write_first(n: usize, q: &[ResourceRow], s: &[TaskRow], out: &mut [u8])
+    requires { ⌜ (2 ≤ length (now q)) × (2 ≤ length (now s)) ⌝ }
+{
     if n <= out.len() {
-        let answer = file::write(Sense::AtLeast, q, s, &mut out[..n]);
+        let answer = file::write(Sense::AtLeast, &q[..2], &s[..2], &mut out[..n]);
         show_written(answer);
     }
 }
@@ -253,11 +260,11 @@ fn write_first(n: usize, q: &[[i64; 2]], s: &[[i64; 9]], out: &mut [u8]) {
 // The file read and written again: 10, into a buffer one byte too short; the same bytes, into one of its length.
 fn written() {
     let f = whole();
-    let resource = [0i64; 2];
-    let task = [0i64; 9];
-    let mut q = [resource; 2];
-    let mut s = [task; 2];
-    read_first(98, &f, &mut q, &mut s);
+    let resource = [0i64; RESOURCE_CELLS];
+    let task = [0i64; TASK_CELLS];
+    let mut q = [resource; plan::MOST_RESOURCES];
+    let mut s = [task; plan::MOST_TASKS];
+    read_first(98, &f, 2, 2, &mut q, &mut s);
     let mut out = [0u8; 99];
     write_first(97, &q, &s, &mut out);
     write_first(98, &q, &s, &mut out);

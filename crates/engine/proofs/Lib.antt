@@ -1,3 +1,2 @@
--- The laws of the calls on rows, and the wrong programs shut out.
+-- Rows ready at least, and a call by its answer.
 pub mod Calls
-pub mod Wrong

@@ -1,3 +1,2 @@
--- What the calls are, and what their answers stand for.
-pub mod Answers
+-- What the calls on rows answer and leave.
 pub mod Calls

@@ -8,16 +8,17 @@ use native.Mathlib.Numerals.{add-one}
 use lib.IntN.{ℤ}
 use lib.ListN.{length, drop, getD, drop-of-length-le}
 use lib.Seq.{drop-cons}
-use Rattle.integers.specs.Whole.{eqZ}
 use Rattle.integers.specs.Tests.{or, any}
 use Rattle.plan.specs.declared.Task.{Task}
 use Rattle.plan.specs.declared.Resource.{Resource}
 use Rattle.plan.specs.declared.Refusal.the-variants.{RepeatedIdentifier, LimitOutside, RangeOutside, SetOutside}
-use Rattle.plan.specs.Powers.{powerFits}
-use Rattle.rules.specs.Calls.{Checked, orElse, refuseIf, repeats, limits, rangesFit, setFits, tasksFit}
-use Rattle.rules.specs.Calls.Checked.{Accepted, Refuse}
-use Rattle.rows.specs.View.{noTask, noResource}
-use Rattle.entry.specs.Checks.{seen}
+use Rattle.integers.specs.Hull.{within}
+use Rattle.plan.specs.Powers.{powerEnds}
+use Rattle.plan.specs.declared.Checked.{Checked}
+use Rattle.rules.specs.Calls.{orElse, refuseIf, repeats, limits, rangesFit, setFits, tasksFit}
+use Rattle.plan.specs.declared.Checked.the-variants.{Accepted, Refused}
+use Rattle.plan.specs.Tasks.{noTask, noResource}
+use Rattle.entry.specs.Checks.{seen, repeatsAt}
 
 -- ---- identifiers
 -- the earlier ones, looked at from the latest back
@@ -31,9 +32,6 @@ unfolding seen any
 seen-none p qs = refl
 
 module _ (qs : List Resource) where
-  abbrev pub repeatsAt : ℕ → Bool
-  repeatsAt k = any (eqZ ((getD qs k noResource) .id)) (seen k qs)
-
   unfoldable pub repeatsFrom : ℕ → Checked
   repeatsFrom k = repeats k (seen k qs) (drop k qs)
 
@@ -41,14 +39,14 @@ module _ (qs : List Resource) where
   unfolding repeatsFrom seen
   repeats-start = refl
 
-  repeats-at : (k : ℕ) → k < length qs → repeatsFrom k ≡ orElse (refuseIf (repeatsAt k) (RepeatedIdentifier k)) (repeatsFrom (suc k))
+  repeats-at : (k : ℕ) → k < length qs → repeatsFrom k ≡ orElse (refuseIf (repeatsAt qs k) (RepeatedIdentifier k)) (repeatsFrom (suc k))
   unfolding repeatsFrom seen repeats
   repeats-at k h = rw (drop-cons qs k noResource h)
 
-  pub repeats-past : (k : ℕ) → k < length qs → repeatsAt k ≡ false → repeatsFrom (k + 1) ≡ repeatsFrom k
+  pub repeats-past : (k : ℕ) → k < length qs → repeatsAt qs k ≡ false → repeatsFrom (k + 1) ≡ repeatsFrom k
   repeats-past k h e = rw (add-one, repeats-at k h, e)
 
-  pub repeats-here : (k : ℕ) → k < length qs → repeatsAt k ≡ true → repeatsFrom k ≡ Refuse (RepeatedIdentifier k)
+  pub repeats-here : (k : ℕ) → k < length qs → repeatsAt qs k ≡ true → repeatsFrom k ≡ Refused (RepeatedIdentifier k)
   repeats-here k h e = rw (repeats-at k h, e)
 
   pub repeats-end : (k : ℕ) → length qs ≤ k → repeatsFrom k ≡ Accepted
@@ -64,14 +62,14 @@ module _ (qs : List Resource) where
   unfolding limitsFrom
   limits-start = refl
 
-  limits-at : (k : ℕ) → k < length qs → limitsFrom k ≡ orElse (refuseIf (not (powerFits ((getD qs k noResource) .limit))) (LimitOutside k)) (limitsFrom (suc k))
+  limits-at : (k : ℕ) → k < length qs → limitsFrom k ≡ orElse (refuseIf (not (within powerEnds ((getD qs k noResource) .limit .0))) (LimitOutside k)) (limitsFrom (suc k))
   unfolding limitsFrom limits
   limits-at k h = rw (drop-cons qs k noResource h)
 
-  pub limits-past : (k : ℕ) → k < length qs → powerFits ((getD qs k noResource) .limit) ≡ true → limitsFrom (k + 1) ≡ limitsFrom k
+  pub limits-past : (k : ℕ) → k < length qs → within powerEnds ((getD qs k noResource) .limit .0) ≡ true → limitsFrom (k + 1) ≡ limitsFrom k
   limits-past k h e = rw (add-one, limits-at k h, e)
 
-  pub limits-here : (k : ℕ) → k < length qs → powerFits ((getD qs k noResource) .limit) ≡ false → limitsFrom k ≡ Refuse (LimitOutside k)
+  pub limits-here : (k : ℕ) → k < length qs → within powerEnds ((getD qs k noResource) .limit .0) ≡ false → limitsFrom k ≡ Refused (LimitOutside k)
   limits-here k h e = rw (limits-at k h, e)
 
   pub limits-end : (k : ℕ) → length qs ≤ k → limitsFrom k ≡ Accepted
@@ -94,10 +92,10 @@ module _ (n : ℕ) (ts : List Task) where
   pub tasks-past : (k : ℕ) → k < length ts → rangesFit (getD ts k noTask) ≡ true → setFits n (getD ts k noTask) ≡ true → tasksFrom (k + 1) ≡ tasksFrom k
   tasks-past k h e f = rw (add-one, tasks-at k h, e, f)
 
-  pub range-here : (k : ℕ) → k < length ts → rangesFit (getD ts k noTask) ≡ false → tasksFrom k ≡ Refuse (RangeOutside k)
+  pub range-here : (k : ℕ) → k < length ts → rangesFit (getD ts k noTask) ≡ false → tasksFrom k ≡ Refused (RangeOutside k)
   range-here k h e = rw (tasks-at k h, e)
 
-  pub set-here : (k : ℕ) → k < length ts → rangesFit (getD ts k noTask) ≡ true → setFits n (getD ts k noTask) ≡ false → tasksFrom k ≡ Refuse (SetOutside k)
+  pub set-here : (k : ℕ) → k < length ts → rangesFit (getD ts k noTask) ≡ true → setFits n (getD ts k noTask) ≡ false → tasksFrom k ≡ Refused (SetOutside k)
   set-here k h e f = rw (tasks-at k h, e, f)
 
   pub tasks-end : (k : ℕ) → length ts ≤ k → tasksFrom k ≡ Accepted

@@ -14,8 +14,8 @@ use Rattle.integers.proofs.Tests.{false-in, and-first, and-second}
 use Rattle.integers.proofs.Z.{z, eqZ-true}
 use Rattle.plan.specs.declared.Resource.{Resource}
 use Rattle.rules.specs.Calls.{repeats}
-use Rattle.rules.specs.Calls.Checked.{Accepted}
-use Rattle.rows.specs.View.{noResource}
+use Rattle.plan.specs.declared.Checked.the-variants.{Accepted}
+use Rattle.plan.specs.Tasks.{noResource}
 use Rattle.entry.specs.Checks.{belowId, rises}
 
 -- ---- the run

@@ -1,97 +1,94 @@
 -- Laws of keys: the parts of a key made of them, that keys rise with the day, and how far a change is from 0.
-use mathlib.Core.Path.{_≡_, refl, _∙_}
+use mathlib.Core.Path.{_≡_}
 use Prim.Native.Nat.{ℕ, _+_, _*_, _/_, _%_, _≤_, _<_, _^_}
 use native.Mathlib.Omega.{arith}
-use lib.Dec.{T}
-use lib.IntN.{ℤ, pos, negsuc, _+ℤ_, _-ℤ_, natAbs}
-use lib.Signed.{_≤ℤ_, nonNeg}
+use lib.IntN.{ℤ, pos, _+ℤ_, _-ℤ_, natAbs}
+use lib.Signed.{_≤ℤ_, _<ℤ_}
 use mir.Syntax.{w64}
-use mir.Val.{SFits, Fits, toZ, ofZ}
+use mir.Val.{SFits, toZ}
 use mir.Facts.{toZ-pos}
-use mir.ValLaws.{toZ-ofZ}
-use Rattle.integers.proofs.Z.{z, +z, -z}
+use Rattle.integers.proofs.Z.{z, up, dn, +z, -z}
 use Rattle.integers.proofs.Sums.{Near}
-use Rattle.events.specs.Keys.{dayOf, powerOf, sureOf, keyOf, EventFits}
+use Rattle.integers.proofs.Hull.{abs-up}
+use Rattle.plan.specs.Days.{dayLow}
+use Rattle.events.specs.Keys.{changeEnds, countEnds, countField, powerField, dayPlace, dayOf, powerOf, sureOf, keyOf, EventFits}
 
--- ---- a number that is not negative, as a natural
-pub natural-fits : (y : ℤ) → SFits w64 y → pos 0 ≤ℤ y → T (nonNeg y) × Fits w64 (natAbs y)
-natural-fits (pos n) f h = (tt, record { fits = omega (arith, f .sfits) })
-natural-fits (negsuc n) f h = absurd (omega z)
+-- ---- a field: how far a value lies above the least, and back
+module _ (x least : ℤ) (h : least ≤ℤ x) where
+  abbrev pub field : ℕ
+  field = natAbs (x -ℤ least)
 
-natural-is : (y : ℤ) → pos 0 ≤ℤ y → pos (natAbs y) ≡ y
-natural-is (pos n) h = refl
-natural-is (negsuc n) h = absurd (omega z)
+  pub field-back : least +ℤ pos field ≡ x
+  field-back =
+      let n = abs-up (x -ℤ least) (omega (z, -z x least)) in
+      omega (z, -z x least, +z least (pos field))
 
--- ---- a natural less a fixed number, as it is read back from its bits
-module _ (x m : ℕ) (h : x < 2 ^ 63) (k : m < 2 ^ 63) where
-  pub less-fits : SFits w64 (toZ w64 x -ℤ pos m)
-  less-fits = rw (toZ-pos w64 {n = x} h) (omega (z, -z (pos x) (pos m)))
-
-  pub less-is : toZ w64 (ofZ w64 (toZ w64 x -ℤ pos m)) ≡ pos x -ℤ pos m
-  less-is = toZ-ofZ w64 (toZ w64 x -ℤ pos m) less-fits ∙ rw (toZ-pos w64 {n = x} h)
+  pub field-small : (n : ℕ) → x <ℤ (least +ℤ pos n) → field < n
+  field-small n l =
+      let m = abs-up (x -ℤ least) (omega (z, -z x least)) in
+      omega (z, -z x least, +z least (pos n))
 
 -- ---- the parts of a key
 module _ (d p u : ℤ) (f : EventFits d p u) where
-  abbrev pub dayPart : ℕ
-  dayPart = natAbs (d +ℤ pos 1048576)
+  abbrev dayPart : ℕ
+  dayPart = natAbs (d -ℤ dayLow)
 
-  abbrev pub powerPart : ℕ
-  powerPart = natAbs (p +ℤ pos 2097152)
+  abbrev powerPart : ℕ
+  powerPart = natAbs (p -ℤ changeEnds .low)
 
-  abbrev pub surePart : ℕ
-  surePart = natAbs (u +ℤ pos 1)
+  abbrev surePart : ℕ
+  surePart = natAbs (u -ℤ countEnds .low)
 
-  pub day-part : pos dayPart ≡ d +ℤ pos 1048576
-  day-part = natural-is (d +ℤ pos 1048576) (omega (z, +z d (pos 1048576)))
+  pub record InFields : Type 0 where
+    pub day : dayPart < dayPlace
+    pub power : powerPart < powerField
+    pub sure : surePart < countField
 
-  pub power-part : pos powerPart ≡ p +ℤ pos 2097152
-  power-part = natural-is (p +ℤ pos 2097152) (omega (z, +z p (pos 2097152)))
-
-  pub sure-part : pos surePart ≡ u +ℤ pos 1
-  sure-part = natural-is (u +ℤ pos 1) (omega (z, +z u (pos 1)))
-
-  pub day-small : dayPart < 2097152
-  day-small = omega (z, day-part, +z d (pos 1048576))
-
-  pub power-small : powerPart < 4194304
-  power-small = omega (z, power-part, +z p (pos 2097152))
-
-  pub sure-small : surePart < 4
-  sure-small = omega (z, sure-part, +z u (pos 1))
+  pub parts-fit : InFields
+  parts-fit =
+      record {
+        day = field-small d dayLow (f .day .least) dayPlace (omega (z, f .day .most));
+        power = field-small p (changeEnds .low) (f .power .least) powerField (omega (z, f .power .most));
+        sure = field-small u (countEnds .low) (f .sure .least) countField (omega (z, f .sure .most));
+      }
 
   pub key-day : dayOf (keyOf d p u) ≡ d
   unfolding dayOf keyOf
   key-day =
-      let h = power-small in
-      let k = sure-small in
-      let q : (dayPart * 16777216 + powerPart * 4 + surePart) / 16777216 ≡ dayPart = omega arith in
-      rw q (omega (z, day-part, +z d (pos 1048576), -z (pos dayPart) (pos 1048576)))
+      let s = parts-fit in
+      let q : (dayPart * dayPlace + powerPart * countField + surePart) / dayPlace ≡ dayPart = omega arith in
+      rw q (field-back d dayLow (f .day .least))
 
   pub key-power : powerOf (keyOf d p u) ≡ p
   unfolding powerOf keyOf
   key-power =
-      let h = power-small in
-      let k = sure-small in
-      let q : (dayPart * 16777216 + powerPart * 4 + surePart) % 16777216 / 4 ≡ powerPart = omega arith in
-      rw q (omega (z, power-part, +z p (pos 2097152), -z (pos powerPart) (pos 2097152)))
+      let s = parts-fit in
+      let q : (dayPart * dayPlace + powerPart * countField + surePart) % dayPlace / countField ≡ powerPart = omega arith in
+      rw q (field-back p (changeEnds .low) (f .power .least))
 
   pub key-sure : sureOf (keyOf d p u) ≡ u
   unfolding sureOf keyOf
   key-sure =
-      let h = power-small in
-      let k = sure-small in
-      let q : (dayPart * 16777216 + powerPart * 4 + surePart) % 4 ≡ surePart = omega arith in
-      rw q (omega (z, sure-part, +z u (pos 1), -z (pos surePart) (pos 1)))
+      let s = parts-fit in
+      let q : (dayPart * dayPlace + powerPart * countField + surePart) % countField ≡ surePart = omega arith in
+      rw q (field-back u (countEnds .low) (f .sure .least))
 
 -- ---- any key
 pub day-rises : (k l : ℕ) → k ≤ l → dayOf k ≤ℤ dayOf l
 unfolding dayOf
-day-rises k l h = omega (z, -z (pos (k / 16777216)) (pos 1048576), -z (pos (l / 16777216)) (pos 1048576))
+day-rises k l h = omega (z, +z dayLow (pos (k / dayPlace)), +z dayLow (pos (l / dayPlace)))
 
-pub power-near : (k : ℕ) → Near 2097152 (powerOf k)
+pub power-near : (k : ℕ) → Near powerField (powerOf k)
 unfolding powerOf
-power-near k = omega (z, -z (pos (k % 16777216 / 4)) (pos 2097152))
+power-near k = omega (z, +z (changeEnds .low) (pos (k % dayPlace / countField)))
 
-pub sure-near : (k : ℕ) → Near 2 (sureOf k)
+pub sure-near : (k : ℕ) → Near countField (sureOf k)
 unfolding sureOf
-sure-near k = omega (z, -z (pos (k % 4)) (pos 1))
+sure-near k = omega (z, +z (countEnds .low) (pos (k % countField)))
+
+-- ---- a field as the code reads it, out of bits
+pub read-is : (x : ℕ) → x < 2 ^ 62 → toZ w64 x ≡ pos x
+read-is x h = toZ-pos w64 {n = x} (omega arith)
+
+pub read-fits : (least : ℤ) (x : ℕ) → dn least ≤ 2 ^ 62 → up least ≤ 2 ^ 62 → x < 2 ^ 62 → SFits w64 (least +ℤ toZ w64 x)
+read-fits least x a b h = rw (read-is x h) (omega (z, +z least (pos x)))

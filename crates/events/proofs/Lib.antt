@@ -1,9 +1,9 @@
--- Laws of keys, of tasks within their ends, and of what a resource's events are, add up to and cover.
+-- Laws of keys, of keys laid one behind the other, and of what a resource's events are, add up to and reach.
 pub mod Keys
-pub mod Fit
+pub mod Fits
 pub mod Laid
-pub mod Events
 pub mod Loops
-pub mod Each
+pub mod Spans
 pub mod Adds
+pub mod Days
 pub mod Covers

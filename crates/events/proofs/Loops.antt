@@ -9,15 +9,16 @@ use lib.Seq.{drop-cons}
 use Rattle.integers.proofs.Tests.{if-case}
 use Rattle.plan.specs.declared.Task.{Task}
 use Rattle.plan.specs.Sets.{has}
-use Rattle.events.specs.declared.Common.{Common}
+use Rattle.events.specs.declared.Extremes.{Extremes}
 use Rattle.events.specs.Laid.{Laid}
-use Rattle.events.specs.Events.{changeKeys, hopeful, surely, fixed, taskKeys, eventsOf, joined, keysOf, common}
+use Rattle.events.specs.Events.{changeKeys, hopeful, surely, fixed, taskKeys, eventsATask, eventsOf, keysOf}
+use Rattle.events.specs.Extremes.{joined, extremesOf}
 use Rattle.events.proofs.Laid.{laid-more}
 
 abbrev few : List ℕ → Type 0
-few l = length l ≤ 4
+few l = length l ≤ eventsATask
 
-pub events-few : (r : ℕ) (t : Task) → length (eventsOf r t) ≤ 4
+pub events-few : (r : ℕ) (t : Task) → few (eventsOf r t)
 unfolding eventsOf taskKeys changeKeys
 events-few r t =
     if-case few (has (t .set) r) _ _
@@ -33,14 +34,14 @@ module _ (r : ℕ) (d : Task) (ts : List Task) (i : ℕ) (h : i < length ts) whe
   unfolding keysOf
   keys-more k l n m p = laid-more k l n m (eventsOf r (getD ts i d)) (keysOf r (drop (i + 1) ts)) p ∙ rw (add-one, drop-cons ts i d h)
 
-  pub common-more : (c : Common) → common r (joined r c (getD ts i d)) (drop (i + 1) ts) ≡ common r c (drop i ts)
-  unfolding common
-  common-more c = rw (add-one, drop-cons ts i d h)
+  pub extremes-more : (e : Extremes) → extremesOf r (joined r e (getD ts i d)) (drop (i + 1) ts) ≡ extremesOf r e (drop i ts)
+  unfolding extremesOf
+  extremes-more e = rw (add-one, drop-cons ts i d h)
 
 pub keys-end : (r : ℕ) (ts : List Task) (i : ℕ) → length ts ≤ i → keysOf r (drop i ts) ≡ []
 unfolding keysOf
 keys-end r ts i h = rw (drop-of-length-le ts h)
 
-pub common-end : (r : ℕ) (c : Common) (ts : List Task) (i : ℕ) → length ts ≤ i → common r c (drop i ts) ≡ c
-unfolding common
-common-end r c ts i h = rw (drop-of-length-le ts h)
+pub extremes-end : (r : ℕ) (e : Extremes) (ts : List Task) (i : ℕ) → length ts ≤ i → extremesOf r e (drop i ts) ≡ e
+unfolding extremesOf
+extremes-end r e ts i h = rw (drop-of-length-le ts h)

@@ -1,4 +1,5 @@
--- One resource's tasks as events, an event as a key, and keys laid one behind the other.
+-- An event as a key, keys laid one behind the other, the events of one resource's tasks, and the extremes of those tasks.
 pub mod Keys
 pub mod Laid
 pub mod Events
+pub mod Extremes

@@ -1,23 +1,24 @@
 // One resource's tasks as events: each task that may stand there gives at most four, an event being a day and what changes from that
-// day on, packed into one key that rises with the day; and what those tasks have in common. Cost: one run over the tasks.
+// day on, packed into one key that rises with the day; and the extremes of those tasks. Cost: one run over the tasks.
 ghost use mathlib.Core.Path.{_≡_};
 ghost use Prim.Native.Nat.{_+_, _*_, _≤_, _<_};
-ghost use lib.IntN.{pos, negℤ, _+ℤ_, natAbs};
+ghost use lib.IntN.{pos, negℤ, _+ℤ_, _-ℤ_, natAbs};
 ghost use lib.ListN.{length, getD};
 ghost use lib.Signed.{_≤ℤ_, ltZ};
 ghost use mir.Syntax.{w64};
 ghost use mir.Val.{SFits};
-ghost use mathlib.Core.Bool.{true};
-ghost use Rattle.plan.specs.Powers.{power};
-ghost use Rattle.plan.specs.Sets.{only};
-ghost use Rattle.rules.specs.Calls.{rangesFit};
-ghost use Rattle.rows.specs.View.{tasksOf, noTask};
-ghost use Rattle.events.specs.Keys.{dayOf, powerOf, sureOf, keyOf, EventFits};
+ghost use Rattle.integers.specs.Lists.{Each};
+ghost use Rattle.plan.specs.Sets.{setBits, only};
+ghost use Rattle.plan.specs.Tasks.{noTask, mostTasks, Bounded};
+ghost use Rattle.rows.specs.View.{tasksOf};
+ghost use Rattle.events.specs.Keys.{count, dayOf, powerOf, sureOf, keyOf, EventFits};
 ghost use Rattle.events.specs.Laid.{Laid};
-ghost use Rattle.events.specs.Events.{count, ChangeFits, change, changeKeys, hopeful, surely, fixed, taskKeys, barOf, liftOf, withTask, eventsOf, joined, keysOf, common, nobody, Fitting};
+ghost use Rattle.events.specs.Events.{eventsATask, ChangeFits, change, changeKeys, hopeful, surely, fixed, taskKeys, eventsOf, keysOf};
+ghost use Rattle.events.specs.Extremes.{withTask, joined, extremesOf, noExtremes};
 use plan::Day;
 use plan::Power;
 use plan::Task;
+use rows::TaskRow;
 
 // A number of tasks, or a change of it.
 pub struct Count(pub i64);
@@ -42,7 +43,58 @@ impl Count {
     {
         0 < self.0
     }
+
+    // How many above the least: a count as a number that is not below 0.
+    fn above(self, least: Count) -> u64
+        requires { ⌜ SFits w64 (self .0 -ℤ least .0) × (least .0 ≤ℤ self .0) ⌝ }
+        ensures { λ r. ⌜ r ≡ natAbs (self .0 -ℤ least .0) ⌝ }
+    {
+        integers::above(self.0, least.0)
+    }
 }
+
+// ---- keys: a day above a change of power above a change of the count, each counted from the least that a key holds
+
+// A change of power is a height come or gone, or one limit in place of another: LOW - HIGH at the least, HIGH - LOW at the most.
+const LEAST_CHANGE: Power = Power(Power::LOW.0 - Power::HIGH.0);
+
+// One sure task less, or one more.
+const LEAST_COUNT: Count = Count(-1);
+
+// How many values a field tells apart: of the powers of two, so that a key comes apart by shifts and masks, the least that is enough for
+// the 3 changes of the count, and for the 4,000,001 changes of a power. The day stands above both.
+const COUNT_FIELD: u64 = 1 << 2;
+
+const POWER_FIELD: u64 = 1 << 22;
+
+const DAY_PLACE: u64 = POWER_FIELD * COUNT_FIELD;
+
+pub fn key_of(d: Day, p: Power, u: Count) -> u64
+    requires { ⌜ EventFits (d .0) (p .0) (u .0) ⌝ }
+    ensures { λ r. ⌜ r ≡ keyOf (d .0) (p .0) (u .0) ⌝ }
+{
+    d.since(Day::LOW) * DAY_PLACE + p.above(LEAST_CHANGE) * COUNT_FIELD + u.above(LEAST_COUNT)
+}
+
+pub fn day_of(k: u64) -> Day
+    ensures { λ r. ⌜ r .0 ≡ dayOf k ⌝ }
+{
+    Day::LOW.plus(Day((k / DAY_PLACE) as i64))
+}
+
+pub fn power_of(k: u64) -> Power
+    ensures { λ r. ⌜ r .0 ≡ powerOf k ⌝ }
+{
+    LEAST_CHANGE.plus(Power((k % DAY_PLACE / COUNT_FIELD) as i64))
+}
+
+pub fn sure_of(k: u64) -> Count
+    ensures { λ r. ⌜ r .0 ≡ sureOf k ⌝ }
+{
+    LEAST_COUNT.plus(Count((k % COUNT_FIELD) as i64))
+}
+
+// ---- events
 
 // From the first day on more power and more sure tasks, from the last day on as much less again.
 pub struct Change {
@@ -52,59 +104,8 @@ pub struct Change {
     pub sure: Count,
 }
 
-// What the tasks of a resource have in common: the days between which they may be under way, and the slack below which a rule may touch one.
-pub struct Common {
-    pub low: Day,
-    pub high: Day,
-    pub bar: Power,
-    pub lift: Power,
-}
-
-// How many events there are, and what their tasks have in common.
-pub struct Collected {
-    pub events: usize,
-    pub common: Common,
-}
-
-// ---- keys
-
-// moved up so that it is not below 0
-fn raised(x: Count, by: Count) -> u64
-    requires { ⌜ SFits w64 (x .0 +ℤ by .0) × (pos 0 ≤ℤ (x .0 +ℤ by .0)) ⌝ }
-    ensures { λ r. ⌜ r ≡ natAbs (x .0 +ℤ by .0) ⌝ }
-{
-    (x.0 + by.0) as u64
-}
-
-pub fn key_of(d: Day, p: Power, u: Count) -> u64
-    requires { ⌜ EventFits (d .0) (p .0) (u .0) ⌝ }
-    ensures { λ r. ⌜ r ≡ keyOf (d .0) (p .0) (u .0) ⌝ }
-{
-    let a = raised(Count(d.0), Count(1048576));
-    let b = raised(Count(p.0), Count(2097152));
-    let c = raised(u, Count(1));
-    a * 16777216 + b * 4 + c
-}
-
-pub fn day_of(k: u64) -> Day
-    ensures { λ r. ⌜ r .0 ≡ dayOf k ⌝ }
-{
-    Day((k / 16777216) as i64 - 1048576)
-}
-
-pub fn power_of(k: u64) -> Power
-    ensures { λ r. ⌜ r .0 ≡ powerOf k ⌝ }
-{
-    Power((k % 16777216 / 4) as i64 - 2097152)
-}
-
-pub fn sure_of(k: u64) -> Count
-    ensures { λ r. ⌜ r .0 ≡ sureOf k ⌝ }
-{
-    Count((k % 4) as i64 - 1)
-}
-
-// ---- events
+// A hope and its end, a sure task and its end.
+pub const EVENTS_A_TASK: usize = 4;
 
 // an event and its opposite, behind the first n
 fn put_change(keys: &mut [u64], n: usize, e: Change) -> usize
@@ -125,31 +126,23 @@ fn is_hopeful(t: Task) -> bool
     ensures { λ r. ⌜ r ≡ hopeful t ⌝ }
 {
     let low = t.origin.low;
-    if Power(0).below(t.height.high) {
-        low.before(t.end.high)
-    } else {
-        false
-    }
+    Power(0).below(t.height.high) && low.before(t.end.high)
 }
 
 // whether the task can stand nowhere else
 fn is_only_on(t: Task, r: u64) -> bool
-    requires { ⌜ r < 64 ⌝ }
+    requires { ⌜ r < setBits ⌝ }
     ensures { λ q. ⌜ q ≡ only (t .set) r ⌝ }
 {
     plan::only_resource(t.set, r)
 }
 
 fn is_surely(t: Task, r: u64) -> bool
-    requires { ⌜ r < 64 ⌝ }
+    requires { ⌜ r < setBits ⌝ }
     ensures { λ q. ⌜ q ≡ surely r t ⌝ }
 {
     let high = t.origin.high;
-    if is_only_on(t, r) {
-        high.before(t.end.low)
-    } else {
-        false
-    }
+    is_only_on(t, r) && high.before(t.end.low)
 }
 
 fn is_fixed(t: Task) -> bool
@@ -157,11 +150,7 @@ fn is_fixed(t: Task) -> bool
 {
     let start = t.origin.high;
     let stop = t.end.high;
-    if start.until(t.origin.low) {
-        stop.until(t.end.low)
-    } else {
-        false
-    }
+    start.not_after(t.origin.low) && stop.not_after(t.end.low)
 }
 
 // the hope from origin low to end high, with u sure tasks
@@ -193,10 +182,10 @@ fn sure_over(t: Task, p: Power) -> Change
     }
 }
 
-// the events of a task that has r in its set, behind the first n
+// the events of a task that has r in its set, behind the first n; where its possible days are its sure ones, two events say both
 fn put_events(keys: &mut [u64], n: usize, t: Task, r: u64) -> usize
-    requires { ⌜ (n + 4 ≤ length (now keys)) × (r < 64) ⌝ }
-    requires { ⌜ rangesFit t ≡ true ⌝ }
+    requires { ⌜ (n + eventsATask ≤ length (now keys)) × (r < setBits) ⌝ }
+    requires { ⌜ Bounded t ⌝ }
     ensures { λ m. ⌜ Laid (now (keys .entry)) (now (keys .exit)) n m (taskKeys r t) ⌝ }
 {
     if is_hopeful(t) {
@@ -215,78 +204,81 @@ fn put_events(keys: &mut [u64], n: usize, t: Task, r: u64) -> usize
     n
 }
 
-pub fn bar_of(t: Task) -> Power
-    requires { ⌜ rangesFit t ≡ true ⌝ }
-    ensures { λ r. ⌜ r ≡ power (barOf t) ⌝ }
-{
-    let high = t.height.high;
-    Power(0).larger(high.negated())
+// ---- extremes
+
+// The days between which the tasks of a resource may be under way, and the most slack below which a rule may touch one: a bar, a lift.
+pub struct Extremes {
+    pub low: Day,
+    pub high: Day,
+    pub bar: Power,
+    pub lift: Power,
 }
 
-pub fn lift_of(t: Task) -> Power
-    requires { ⌜ rangesFit t ≡ true ⌝ }
-    ensures { λ r. ⌜ r ≡ power (liftOf t) ⌝ }
+fn with_task(e: Extremes, t: Task) -> Extremes
+    requires { ⌜ Bounded t ⌝ }
+    ensures { λ r. ⌜ r ≡ withTask e t ⌝ }
 {
-    let high = t.height.high;
-    high.larger(high.minus(t.height.low))
-}
-
-fn with_task(c: Common, t: Task) -> Common
-    requires { ⌜ rangesFit t ≡ true ⌝ }
-    ensures { λ r. ⌜ r ≡ withTask c t ⌝ }
-{
-    let low = c.low;
-    let high = c.high;
-    let bar = c.bar;
-    let lift = c.lift;
-    Common {
+    let low = e.low;
+    let high = e.high;
+    let bar = e.bar;
+    let lift = e.lift;
+    Extremes {
         low: low.smaller(t.origin.low),
         high: high.larger(t.end.high),
-        bar: bar.larger(bar_of(t)),
-        lift: lift.larger(lift_of(t)),
+        bar: bar.larger(stretches::bar_of(t)),
+        lift: lift.larger(stretches::lift_of(t)),
     }
 }
 
-fn no_one() -> Common
-    ensures { λ r. ⌜ r ≡ nobody ⌝ }
+// of no task: the ends of days the other way round, so that the first task sets both
+fn no_extremes() -> Extremes
+    ensures { λ r. ⌜ r ≡ noExtremes ⌝ }
 {
-    Common {
-        low: Day::highest(),
-        high: Day::lowest(),
+    Extremes {
+        low: Day::HIGH,
+        high: Day::LOW,
         bar: Power(0),
         lift: Power(0),
     }
 }
 
+// ---- both, for every task
+
+// How many events there are, and the extremes of their tasks.
+pub struct Collected {
+    pub events: usize,
+    pub extremes: Extremes,
+}
+
 // the events of task i, where it has r in its set, behind those of the tasks before it
-fn collect_task(s: &[[i64; 9]], i: usize, r: u64, keys: &mut [u64], c: Collected) -> Collected
-    requires { ⌜ (i < length (now s)) × (r < 64) × (c .events + 4 ≤ length (now keys)) ⌝ }
-    requires { ⌜ rangesFit (getD (tasksOf (now s)) i noTask) ≡ true ⌝ }
+fn collect_task(s: &[TaskRow], i: usize, r: u64, keys: &mut [u64], c: Collected) -> Collected
+    requires { ⌜ (i < length (now s)) × (r < setBits) × (c .events + eventsATask ≤ length (now keys)) ⌝ }
+    requires { ⌜ Bounded (getD (tasksOf (now s)) i noTask) ⌝ }
     ensures { λ q. ⌜ Laid (now (keys .entry)) (now (keys .exit)) (c .events) (q .events) (eventsOf r (getD (tasksOf (now (s .entry))) i noTask)) ⌝ }
-    ensures { λ q. ⌜ q .common ≡ joined r (c .common) (getD (tasksOf (now (s .entry))) i noTask) ⌝ }
+    ensures { λ q. ⌜ q .extremes ≡ joined r (c .extremes) (getD (tasksOf (now (s .entry))) i noTask) ⌝ }
 {
     let t = rows::task_at(s, i);
     if plan::has_resource(t.set, r) {
         let n = put_events(keys, c.events, t, r);
         return Collected {
             events: n,
-            common: with_task(c.common, t),
+            extremes: with_task(c.extremes, t),
         };
     }
     c
 }
 
 // the events of every task that has r in its set
-pub fn collect(s: &[[i64; 9]], r: u64, keys: &mut [u64]) -> Collected
-    requires { ⌜ (r < 64) × (length (now s) ≤ 256) × (4 * length (now s) ≤ length (now keys)) ⌝ }
-    requires { ⌜ Fitting (tasksOf (now s)) ⌝ }
+pub fn collect(s: &[TaskRow], r: u64, keys: &mut [u64]) -> Collected
+    requires { ⌜ (r < setBits) × (length (now s) ≤ mostTasks) × (eventsATask * length (now s) ≤ length (now keys)) ⌝ }
+    requires { ⌜ Each Bounded (tasksOf (now s)) ⌝ }
     ensures { λ q. ⌜ Laid (now (keys .entry)) (now (keys .exit)) 0 (q .events) (keysOf r (tasksOf (now (s .entry)))) ⌝ }
-    ensures { λ q. ⌜ q .common ≡ common r nobody (tasksOf (now (s .entry))) ⌝ }
-    ensures { λ q. ⌜ q .events ≤ 4 * length (now (s .entry)) ⌝ }
+    ensures { λ q. ⌜ q .extremes ≡ extremesOf r noExtremes (tasksOf (now (s .entry))) ⌝ }
+    ensures { λ q. ⌜ q .events ≤ eventsATask * length (now (s .entry)) ⌝ }
 {
     let mut c = Collected {
         events: 0,
-        common: no_one(),
+        extremes: no_extremes(),
     };
     let mut i: usize = 0;
     while i < s.len() {

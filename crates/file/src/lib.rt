@@ -1,43 +1,218 @@
-// A plan file read into rows of resources and tasks, and written from them.
-pub mod reader;
-
+// A plan file read into rows of resources and tasks, the cursor's records in the order that they are due, and written from them.
 ghost use mathlib.Core.Path.{_≡_};
-ghost use Rattle.rows.specs.View.{tasksOf, resourcesOf};
-ghost use Rattle.format.specs.Reading.{readResult, readCall};
+ghost use Prim.Native.Nat.{_≤_, _<_, _^_};
+ghost use lib.ListN.{length};
+ghost use Rattle.plan.specs.Tasks.{mostResources, mostTasks};
+ghost use Rattle.rows.specs.View.{tasksOf, resourcesOf, frameOf};
+ghost use Rattle.format.specs.declared.Mark.the-variants.{PL};
+ghost use Rattle.format.specs.Format.{size, resources, tasks, tasksFrom};
+ghost use Rattle.format.specs.Reading.{ReadRun, headerDue, listsDue, readHeader, readUnless, readBody, readAfter, lentAfter, readLent, headerPlan, answerPlan, AnswerWithin};
+ghost use Rattle.format.specs.declared.HeaderAnswer.{HeaderAnswer};
 ghost use Rattle.format.specs.Writing.{writeResult, writeCall};
-use entry::Entry;
+use cursor::Cursor;
+use cursor::Record;
+use cursor::not_due;
+use format::Header;
+use format::HeaderAnswer;
+use format::Mark;
 use format::ReadAnswer;
 use format::WriteAnswer;
+use format::table;
+use plan::Checked;
+use plan::MOST_RESOURCES;
+use plan::MOST_TASKS;
+use plan::Refusal;
 use plan::Sense;
-use reader::copy_resources;
-use reader::copy_tasks;
-use reader::read_plan;
+use rows::ResourceRow;
+use rows::TaskRow;
 
-pub fn write(sense: Sense, q: &[[i64; 2]], s: &[[i64; 9]], out: &mut [u8]) -> WriteAnswer
-    ensures { λ r. ⌜ writeResult r (now (out .exit)) ≡ writeCall sense (resourcesOf (now (q .entry))) (tasksOf (now (s .entry))) (now (out .entry)) ⌝ }
+// "In PL then, in this order": the sense, the task count, the resource count.
+fn check_header(h: Header) -> Checked
+    ensures { λ r. ⌜ r ≡ headerDue h ⌝ }
 {
-    let checked = entry::check(q, s);
+    if 1 < h.sense {
+        return Checked::Refused(Refusal::WrongMark(0));
+    }
+    if MOST_TASKS < h.tasks {
+        return Checked::Refused(Refusal::TooManyTasks);
+    }
+    if h.resources == 0 {
+        return Checked::Refused(Refusal::ResourceCount);
+    }
+    if MOST_RESOURCES < h.resources {
+        return Checked::Refused(Refusal::ResourceCount);
+    }
+    Checked::Accepted
+}
+
+// What the PL record holds, read once and handed on.
+pub fn read_header(file: &[u8]) -> HeaderAnswer
+    ensures { λ r. ⌜ r ≡ readHeader (now (file .entry)) ⌝ }
+{
+    let start = Cursor { at: 0 };
+    let got = start.next(file);
+    let Record::Plan(h, _) = got else {
+        return HeaderAnswer::Refused(not_due(Mark::PL, 0, got));
+    };
+    let checked = check_header(h);
     match checked {
-        Entry::Refused(f) => WriteAnswer::Refused(f),
-        Entry::Accepted => writer::put_plan(sense, q, s, out),
+        Checked::Refused(f) => HeaderAnswer::Refused(f),
+        Checked::Accepted => HeaderAnswer::Counts(h),
     }
 }
 
-// A plan file into the lent lists. The file is read into rows of our own first, and copied once it is known to be a plan.
-pub fn read(file: &[u8], q: &mut [[i64; 2]], s: &mut [[i64; 9]]) -> ReadAnswer
-    ensures { λ r. ⌜ readResult r (resourcesOf (now (q .exit))) (tasksOf (now (s .exit))) ≡ readCall (now (file .entry)) (resourcesOf (now (q .entry))) (tasksOf (now (s .entry))) ⌝ }
+// All RS, one after another, and the rows they make; then all TK.
+fn read_resources(file: &[u8], h: Header, q: &mut [ResourceRow]) -> Checked
+    requires { ⌜ h .resources ≤ length (now q) ⌝ }
+    ensures { λ r. ⌜ ReadRun resources (now (file .entry)) (size PL) (h .resources) r (resourcesOf (now (q .exit))) ⌝ }
 {
-    let resource = [0i64; 2];
-    let task = [0i64; 9];
-    let mut resources = [resource; 16];
-    let mut tasks = [task; 256];
-    let answer = read_plan(file, q.len(), s.len(), &mut resources, &mut tasks);
-    match answer {
-        ReadAnswer::Refused(f) => ReadAnswer::Refused(f),
-        ReadAnswer::Plan(sense, n, m) => {
-            copy_resources(n, &resources, q);
-            copy_tasks(m, &tasks, s);
-            ReadAnswer::Plan(sense, n, m)
+    let mut c = Cursor { at: table::PL_SIZE };
+    let mut i: usize = 0;
+    while i < h.resources {
+        let at = c.at;
+        let got = c.next_due(Mark::RS, file);
+        let Record::Resource(r, past) = got else {
+            return Checked::Refused(not_due(Mark::RS, at, got));
+        };
+        rows::put_resource(q, i, r);
+        c = past;
+        i += 1;
+    }
+    Checked::Accepted
+}
+
+fn read_tasks(file: &[u8], h: Header, s: &mut [TaskRow]) -> Checked
+    requires { ⌜ (tasksFrom (h .resources) < 2 ^ 64) × (h .tasks ≤ length (now s)) ⌝ }
+    ensures { λ r. ⌜ ReadRun (tasks (h .resources)) (now (file .entry)) (tasksFrom (h .resources)) (h .tasks) r (tasksOf (now (s .exit))) ⌝ }
+{
+    let mut c = Cursor {
+        at: table::tasks_from(h.resources),
+    };
+    let mut i: usize = 0;
+    while i < h.tasks {
+        let at = c.at;
+        let got = c.next_due(Mark::TK, file);
+        let Record::Task(t, past) = got else {
+            return Checked::Refused(not_due(Mark::TK, at, got));
+        };
+        rows::put_task(s, i, t);
+        c = past;
+        i += 1;
+    }
+    Checked::Accepted
+}
+
+// All RS, all TK; "After the last record, leftover bytes 9".
+fn read_body(file: &[u8], h: Header, q: &mut [ResourceRow], s: &mut [TaskRow]) -> Checked
+    requires { ⌜ (h .resources ≤ length (now q)) × (h .tasks ≤ length (now s)) ⌝ }
+    ensures { λ r. ⌜ readUnless r (headerPlan h (now (q .exit)) (now (s .exit))) ≡ readBody h (now (file .entry)) ⌝ }
+{
+    let listed = read_resources(file, h, q);
+    let Checked::Accepted = listed else {
+        return listed;
+    };
+    let last = read_tasks(file, h, s);
+    let Checked::Accepted = last else {
+        return last;
+    };
+    let end = table::file_length(h.resources, h.tasks);
+    if end < file.len() {
+        return Checked::Refused(Refusal::CutShort(end));
+    }
+    Checked::Accepted
+}
+
+// The rest of a file, into rows with places for all that its header counts; "then 3 to 6".
+pub fn read_rest(file: &[u8], h: Header, q: &mut [ResourceRow], s: &mut [TaskRow]) -> Checked
+    requires { ⌜ (h .resources ≤ length (now q)) × (h .tasks ≤ length (now s)) ⌝ }
+    ensures { λ r. ⌜ readUnless r (headerPlan h (now (q .exit)) (now (s .exit))) ≡ readAfter h (now (file .entry)) ⌝ }
+{
+    let body = read_body(file, h, q, s);
+    let Checked::Accepted = body else {
+        return body;
+    };
+    let n = h.resources;
+    let m = h.tasks;
+    entry::check(&q[..n], &s[..m])
+}
+
+// 11: "a list lent to the reader is shorter than the file's count".
+fn check_lists(h: Header, places: usize, room: usize) -> Checked
+    ensures { λ r. ⌜ r ≡ listsDue places room h ⌝ }
+{
+    if places < h.resources {
+        return Checked::Refused(Refusal::ListShort);
+    }
+    if room < h.tasks {
+        return Checked::Refused(Refusal::ListShort);
+    }
+    Checked::Accepted
+}
+
+// 11, then the rest of the file.
+fn read_into(
+    file: &[u8],
+    h: Header,
+    places: usize,
+    room: usize,
+    q: &mut [ResourceRow],
+    s: &mut [TaskRow],
+) -> Checked
+    requires { ⌜ (h .resources ≤ length (now q)) × (h .tasks ≤ length (now s)) ⌝ }
+    ensures { λ r. ⌜ readUnless r (headerPlan h (now (q .exit)) (now (s .exit))) ≡ lentAfter places room (now (file .entry)) (HeaderAnswer.Counts h) ⌝ }
+{
+    let lists = check_lists(h, places, room);
+    let Checked::Accepted = lists else {
+        return lists;
+    };
+    read_rest(file, h, q, s)
+}
+
+// The plan of a file for lent lists of so many places, into rows of our own that hold every count that is not refused: nothing lent is
+// touched before the file is known to be whole.
+pub fn read_lent(
+    file: &[u8],
+    places: usize,
+    room: usize,
+    q: &mut [ResourceRow],
+    s: &mut [TaskRow],
+) -> ReadAnswer
+    requires { ⌜ (mostResources ≤ length (now q)) × (mostTasks ≤ length (now s)) ⌝ }
+    ensures { λ r. ⌜ answerPlan r (now (q .exit)) (now (s .exit)) ≡ readLent places room (now (file .entry)) ⌝ }
+    ensures { λ r. ⌜ AnswerWithin r (length (now (q .exit))) (length (now (s .exit))) ⌝ }
+{
+    let first = read_header(file);
+    match first {
+        HeaderAnswer::Refused(f) => ReadAnswer::Refused(f),
+        HeaderAnswer::Counts(h) => {
+            let rest = read_into(file, h, places, room, q, s);
+            match rest {
+                Checked::Refused(f) => ReadAnswer::Refused(f),
+                Checked::Accepted => {
+                    let sense = table::sense_from(h.sense);
+                    ReadAnswer::Plan(sense, h.resources, h.tasks)
+                }
+            }
+        }
+    }
+}
+
+// 1 to 6, then 10.
+pub fn write(sense: Sense, q: &[ResourceRow], s: &[TaskRow], out: &mut [u8]) -> WriteAnswer
+    ensures { λ r. ⌜ writeResult r (now (out .exit)) ≡ writeCall (frameOf sense (now (q .entry))) (tasksOf (now (s .entry))) (now (out .entry)) ⌝ }
+{
+    let checked = entry::check(q, s);
+    match checked {
+        Checked::Refused(f) => WriteAnswer::Refused(f),
+        Checked::Accepted => {
+            let room = writer::room_for(q.len(), s.len(), out.len());
+            match room {
+                Checked::Refused(f) => WriteAnswer::Refused(f),
+                Checked::Accepted => {
+                    writer::put_plan(sense, q, s, out);
+                    WriteAnswer::Written(table::file_length(q.len(), s.len()))
+                }
+            }
         }
     }
 }

@@ -1,439 +1,299 @@
--- Whole files: a written plan is read back as itself, and a file that is read is the writing of what was read.
+-- Whole files: how long a written plan is and how it is stored; a written plan is read back as itself, and a file that is read is the
+-- writing of what was read.
 use mathlib.Core.Path.{_≡_, refl, sym, ap, _∙_, subst}
-use mathlib.Core.Bool.{true, false}
-use mathlib.Core.List.{List, [], _∷_, _++_, map, append-nil}
+use mathlib.Core.List.{List, [], _++_, append-nil}
 use Prim.Native.Nat.{ℕ, zero, suc, _+_, _*_, _≤_, _<_}
 use native.Mathlib.Omega.{arith}
 use native.Mathlib.Nat.{zero-add}
-use lib.Dec.{eqb, ltb}
 use lib.IntN.{ℤ}
-use lib.ListN.{length, take, drop, length-append, length-drop, length-map, take-append-drop}
+use lib.Dec.{eqb, ltb}
+use lib.ListN.{length, take, drop, length-append, length-drop, take-append-drop}
 use lib.Seq.{drop-at, drop-drop, take-all, sets}
 use borrow.Author.Tests.{le-ltb, ne-eqb, ltb-false}
 use Rattle.integers.specs.Tests.{or}
+use Rattle.integers.proofs.Tests.{or-none}
+use Rattle.integers.specs.Lists.{Each}
 use Rattle.plan.specs.declared.Task.{Task}
-use Rattle.plan.specs.declared.Resource.{Resource}
 use Rattle.plan.specs.declared.Sense.{Sense}
 use Rattle.plan.specs.declared.Sense.the-variants.{AtMost, AtLeast}
-use Rattle.plan.specs.declared.Refusal.{Refusal}
-use Rattle.plan.specs.declared.Refusal.the-variants.{WrongMark, CutShort, TooManyTasks, ResourceCount, ListShort}
-use Rattle.rows.specs.View.{taskOf, tasksOf, resourceOf, resourcesOf}
-use Rattle.rules.specs.Calls.{Checked, orElse, refuseIf, check, mostTasks, mostResources}
-use Rattle.format.specs.declared.Mark.the-variants.{PL, RS, TK}
+use Rattle.plan.specs.declared.Checked.{Checked}
+use Rattle.plan.specs.declared.Checked.the-variants.{Accepted, Refused}
+use Rattle.plan.specs.declared.Refusal.the-variants.{TooManyTasks, ResourceCount, WrongMark, CutShort}
+use Rattle.plan.specs.Tasks.{mostTasks, mostResources}
+use Rattle.rules.specs.Frame.{Frame, resourceCount}
+use Rattle.rules.specs.Calls.{orElse, refuseIf, check}
+use Rattle.rules.proofs.Checks.{accepts, past, past-all}
+use Rattle.rows.specs.View.{resourcesOf, tasksOf, frameOf}
+use Rattle.rows.proofs.View.{length-resources, length-tasks, resources-take, tasks-take}
+use Rattle.format.specs.declared.Mark.the-variants.{PL}
 use Rattle.format.specs.declared.Header.{Header}
-use Rattle.format.specs.declared.ReadAnswer.{ReadAnswer}
-use Rattle.format.specs.Format.{widths, recordBytes, fieldsIn, numbersIn, headerNumbers, headerFrom, resourceNumbers, resourceFrom, taskNumbers, taskFrom, senseNumber, senseFrom}
-use Rattle.format.specs.Writing.{recordsBytes, Each, nothing, also, headerOf, written, laid}
-use Rattle.format.specs.Reading.{due, eachDue, recordsIn, headerIn, tasksFrom, fileEnd, resourcesIn, tasksIn, headerDue, bodyDue, shapeDue, Read, readUnless, readPlan, readAnswer, readResult, readInto, Stands}
-use Rattle.format.proofs.Numbers.{AllBytes, room, bytes-drop}
-use Rattle.format.proofs.Stores.{sets-append, copied}
-use Rattle.format.proofs.Records.{Held, none, more, then-first, then-second, unrefused, length-record, numbers-record, due-record, record-numbers, length-records, due-records, numbers-records, length-recordsIn, records-numbers, records-held}
-use Rattle.format.proofs.Passed.{neither-first, neither-second, Identified, Passed, passed, resource-held, resource-back, task-held, task-back, resource-numbers, task-numbers, resource-identified}
+use Rattle.format.specs.declared.HeaderAnswer.{HeaderAnswer}
+use Rattle.format.specs.Format.{resources, tasks, size, widths, recordBytes, fieldsIn, numbersIn, headerNumbers, headerFrom, senseNumber, senseFrom, taskMark, tasksFrom, fileLength}
+use Rattle.format.specs.Writing.{recordsBytes, headerOf, written, Identified}
+use Rattle.format.specs.Reading.{due, headerIn, headerDue, frameIn, tasksIn, bodyDue, fileEnd, runDue, runIn, Read, readUnless, readChecked, headerUnless, planAfter, readHeader, readBody, readAfter, readPlan, headerPlan}
+use Rattle.format.proofs.Numbers.{Byte, beyond, bytes-drop}
+use Rattle.format.proofs.Stores.{sets-append}
+use Rattle.format.proofs.Records.{unrefused, Held, none, more, length-record, record-read, record-due, due-is, record-written, length-records, records-back, records-written, length-in}
+use Rattle.format.proofs.Layouts.{resources-lawful, resource-identified, tasks-lawful, resources-small, tasks-small}
 
--- ---- a list mapped there and back
-module _ {A B : Type 0} {P : A → Type 0} where
-  each-map : {Q : B → Type 0} (f : A → B) → ((x : A) → P x → Q (f x)) → {xs : List A} → Each P xs → Each Q (map f xs)
-  each-map f g nothing = nothing
-  each-map f g (also {x} h r) = also (g x h) (each-map f g r)
+-- ---- the three parts of a written plan
+module _ (f : Frame) (ts : List Task) where
+  abbrev pub n : ℕ
+  n = resourceCount f
 
-  map-back : (f : A → B) (g : B → A) → ((x : A) → P x → g (f x) ≡ x) → {xs : List A} → Each P xs → map g (map f xs) ≡ xs
-  map-back f g e nothing = refl
-  map-back f g e (also {x} {xs} h r) = rw (e x h, map-back f g e r)
+  abbrev h : Header
+  h = headerOf f (length ts)
 
--- ---- a written plan
-module _ (sense : Sense) (qs : List Resource) (ts : List Task) (ids : Each Identified qs) (pass : check qs ts ≡ Checked.Accepted) where
-  abbrev pub h : Header
-  h = headerOf sense (length qs) (length ts)
-
-  first : List ℕ
+  abbrev first : List ℕ
   first = recordBytes PL (headerNumbers h)
 
-  resources : List ℕ
-  resources = recordsBytes RS (map resourceNumbers qs)
+  abbrev listed : List ℕ
+  listed = recordsBytes resources (f .resources)
 
-  tasks : List ℕ
-  tasks = recordsBytes TK (map taskNumbers ts)
+  abbrev last : List ℕ
+  last = recordsBytes (tasks n) ts
 
-  p : Passed qs ts
-  p = passed qs ts pass
+  length-first : length first ≡ size PL
+  unfolding headerNumbers
+  length-first = length-record PL (headerNumbers h) refl
 
-  sense-small : (s : Sense) → senseNumber s < 256
-  sense-small AtMost = omega arith
-  sense-small AtLeast = omega arith
+  length-listed : length listed ≡ n * size (resources .due)
+  length-listed = length-records resources-lawful (f .resources)
 
-  header-held : Held (widths PL) (headerNumbers h)
-  unfolding headerNumbers room headerOf
-  header-held =
-      let r : length qs < room 1 = omega (arith, p .few-resources) in
-      let t : length ts < room 2 = omega (arith, p .few-tasks) in
-      more (sense-small sense) (more r (more t none))
+  pub length-written : length (written f ts) ≡ fileLength n (length ts)
+  unfolding written
+  length-written =
+      omega (arith, length-append first (listed ++ last), length-append listed last, length-first, length-listed, length-records (tasks-lawful n) ts)
 
-  resources-held : Each (Held (widths RS)) (map resourceNumbers qs)
-  resources-held = each-map resourceNumbers resource-held (p .resources ids)
+  -- stored record after record
+  pub written-stored : (out : List ℕ) → sets out 0 (written f ts) ≡ sets (sets (sets out 0 first) (size PL) listed) (tasksFrom n) last
+  unfolding written
+  written-stored out =
+      sets-append out 0 first (listed ++ last)
+      ∙ ap (λ (k : ℕ). sets (sets out 0 first) k (listed ++ last)) (zero-add (length first) ∙ length-first)
+      ∙ sets-append (sets out 0 first) (size PL) listed last
+      ∙ ap (λ (k : ℕ). sets (sets (sets out 0 first) (size PL) listed) (size PL + k) last) length-listed
 
-  tasks-held : Each (Held (widths TK)) (map taskNumbers ts)
-  tasks-held = each-map taskNumbers task-held (p .tasks)
+  after-first : drop (size PL) (written f ts) ≡ listed ++ last
+  unfolding written
+  after-first = drop-at first (listed ++ last) (size PL) length-first
 
-  header-is : headerIn (first ++ (resources ++ tasks)) ≡ h
-  unfolding headerIn first headerFrom headerNumbers
-  header-is = rw (numbers-record PL header-held (resources ++ tasks))
+  after-listed : drop (tasksFrom n) (written f ts) ≡ last
+  after-listed =
+      sym (drop-drop (n * size (resources .due)) (size PL) (written f ts))
+      ∙ ap (drop (n * size (resources .due))) after-first
+      ∙ drop-at listed last (n * size (resources .due)) length-listed
 
-  after-header : drop 6 (first ++ (resources ++ tasks)) ≡ resources ++ tasks
-  unfolding first
-  after-header = drop-at first (resources ++ tasks) 6 (length-record PL header-held)
+  -- ---- read back, where the plan passes the checks
+  module _ (ids : Each Identified (f .resources)) (ok : check f ts ≡ Accepted) where
+    sense-small : (s : Sense) → senseNumber s < 2
+    sense-small AtMost = omega arith
+    sense-small AtLeast = omega arith
 
-  length-resources : length resources ≡ length qs * 10
-  unfolding resources
-  length-resources = length-records RS resources-held ∙ ap (λ (n : ℕ). n * 10) (length-map qs resourceNumbers)
+    sense-back : (s : Sense) → senseFrom (senseNumber s) ≡ s
+    sense-back AtMost = refl
+    sense-back AtLeast = refl
 
-  length-tasks : length tasks ≡ length ts * 36
-  unfolding tasks
-  length-tasks = length-records TK tasks-held ∙ ap (λ (n : ℕ). n * 36) (length-map ts taskNumbers)
+    header-held : Held (widths PL) (headerNumbers h)
+    unfolding headerNumbers headerOf beyond
+    header-held =
+        let s : senseNumber (f .sense) < beyond 1 = omega (arith, sense-small (f .sense)) in
+        let r : n < beyond 1 = omega (arith, accepts f ts ok .most) in
+        let t : length ts < beyond 2 = omega (arith, accepts f ts ok .few) in
+        more s (more r (more t none))
 
-  after-resources : drop (tasksFrom h) (first ++ (resources ++ tasks)) ≡ tasks
-  unfolding headerOf
-  after-resources =
-      sym (drop-drop (length qs * 10) 6 (first ++ (resources ++ tasks)))
-      ∙ ap (drop (length qs * 10)) after-header
-      ∙ drop-at resources tasks (length qs * 10) length-resources
+    header-back : headerIn (written f ts) ≡ h
+    unfolding headerIn headerFrom headerNumbers written
+    header-back = rw (record-read PL header-held (listed ++ last))
 
-  whole-length : length (first ++ (resources ++ tasks)) ≡ fileEnd h
-  unfolding first headerOf
-  whole-length =
-      omega (arith, length-append first (resources ++ tasks), length-append resources tasks, length-record PL header-held, length-resources, length-tasks)
+    first-due : due PL 0 (written f ts) ≡ Accepted
+    unfolding written
+    first-due = record-due PL header-held (listed ++ last) 0
 
-  pub length-written : length (written sense qs ts) ≡ fileEnd h
-  unfolding written first resources tasks headerOf
-  length-written = whole-length
+    header-passes : headerDue h ≡ Accepted
+    unfolding headerDue headerOf
+    header-passes =
+        let a = accepts f ts ok in
+        let s = sense-small (f .sense) in
+        simp (
+          le-ltb 1 (senseNumber (f .sense)) (omega arith),
+          le-ltb mostTasks (length ts) (a .few),
+          ne-eqb n 0 (λ e. omega (arith, a .some)),
+          le-ltb mostResources n (a .most),
+        )
 
-  -- the file stored record after record
-  pub written-stores : (out : List ℕ) → sets out 0 (written sense qs ts) ≡ sets (sets (sets out 0 (recordBytes PL (headerNumbers h))) 6 (recordsBytes RS (map resourceNumbers qs))) (6 + length qs * 10) (recordsBytes TK (map taskNumbers ts))
-  unfolding written first resources tasks
-  written-stores out =
-      sets-append out 0 first (resources ++ tasks)
-      ∙ ap (λ (n : ℕ). sets (sets out 0 first) n (resources ++ tasks)) (zero-add (length first) ∙ length-record PL header-held)
-      ∙ sets-append (sets out 0 first) 6 resources tasks
-      ∙ ap (λ (n : ℕ). sets (sets (sets out 0 first) 6 resources) (6 + n) tasks) length-resources
+    resources-back : (runDue resources (written f ts) (size PL) n ≡ Accepted) × (runIn resources (written f ts) (size PL) n ≡ f .resources)
+    resources-back = rw after-first (records-back resources-lawful (resources-small f ts ok ids) last (size PL))
 
-  resources-read : resourcesIn h (first ++ (resources ++ tasks)) ≡ qs
-  unfolding resourcesIn resources headerOf
-  resources-read =
-      rw (after-header)
-      (subst (λ (n : ℕ). map resourceFrom (recordsIn RS n (resources ++ tasks)) ≡ qs) (length-map qs resourceNumbers)
-      (rw (numbers-records RS resources-held tasks) (map-back resourceNumbers resourceFrom resource-back (p .resources ids))))
+    tasks-back : (runDue (tasks n) (written f ts) (tasksFrom n) (length ts) ≡ Accepted) × (runIn (tasks n) (written f ts) (tasksFrom n) (length ts) ≡ ts)
+    tasks-back = rw after-listed (rw append-nil at (records-back (tasks-lawful n) (tasks-small f ts ok) [] (tasksFrom n)))
 
-  resources-due : eachDue RS (h .resources) 6 (drop 6 (first ++ (resources ++ tasks))) ≡ Checked.Accepted
-  unfolding resources headerOf
-  resources-due =
-      rw after-header
-      (subst (λ (n : ℕ). eachDue RS n 6 (resources ++ tasks) ≡ Checked.Accepted) (length-map qs resourceNumbers)
-      (due-records RS resources-held 6 tasks))
+    body-passes : bodyDue h (written f ts) ≡ Accepted
+    unfolding bodyDue headerOf
+    body-passes =
+        simp (resources-back .0, tasks-back .0, le-ltb (fileLength n (length ts)) (length (written f ts)) (omega (arith, length-written)))
 
-  tasks-read : tasksIn h (first ++ (resources ++ tasks)) ≡ ts
-  unfolding tasksIn tasks headerOf
-  tasks-read =
-      rw after-resources
-      (subst (λ (l : List ℕ). map taskFrom (recordsIn TK (length ts) l) ≡ ts) (append-nil tasks)
-      (subst (λ (n : ℕ). map taskFrom (recordsIn TK n (tasks ++ [])) ≡ ts) (length-map ts taskNumbers)
-      (rw (numbers-records TK tasks-held []) (map-back taskNumbers taskFrom task-back (p .tasks)))))
+    frame-back : frameIn h (written f ts) ≡ f
+    unfolding frameIn headerOf
+    frame-back = rw (resources-back .1, sense-back (f .sense))
 
-  tasks-due : eachDue TK (h .tasks) (tasksFrom h) (drop (tasksFrom h) (first ++ (resources ++ tasks))) ≡ Checked.Accepted
-  unfolding tasks headerOf
-  tasks-due =
-      rw after-resources
-      (subst (λ (l : List ℕ). eachDue TK (length ts) (tasksFrom h) l ≡ Checked.Accepted) (append-nil tasks)
-      (subst (λ (n : ℕ). eachDue TK n (tasksFrom h) (tasks ++ []) ≡ Checked.Accepted) (length-map ts taskNumbers)
-      (due-records TK tasks-held (tasksFrom h) [])))
+    tasks-same : tasksIn h (written f ts) ≡ ts
+    unfolding tasksIn headerOf
+    tasks-same = tasks-back .1
 
-  header-due : (places space : ℕ) → length qs ≤ places → length ts ≤ space → headerDue places space h ≡ Checked.Accepted
-  unfolding headerDue headerOf
-  header-due places space a b =
-      simp (
-        one-or-none sense,
-        le-ltb mostTasks (length ts) (p .few-tasks),
-        ne-eqb (length qs) 0 (λ e. omega (arith, p .some-resource)),
-        le-ltb mostResources (length qs) (p .few-resources),
-        le-ltb places (length qs) a,
-        le-ltb space (length ts) b,
-      )
-    where
-      one-or-none : (s : Sense) → ltb 1 (senseNumber s) ≡ false
-      one-or-none AtMost = refl
-      one-or-none AtLeast = refl
-
-  sense-back : (s : Sense) → senseFrom (senseNumber s) ≡ s
-  sense-back AtMost = refl
-  sense-back AtLeast = refl
-
-  shape-due : (places space : ℕ) → length qs ≤ places → length ts ≤ space → shapeDue places space h (first ++ (resources ++ tasks)) ≡ Checked.Accepted
-  unfolding shapeDue bodyDue first
-  shape-due places space a b =
-      let file = first ++ (resources ++ tasks) in
-      simp (pl-due, header-due places space a b, resources-due, tasks-due, le-ltb (fileEnd h) (length file) (omega (arith, whole-length)))
-    where
-      pl-due : due PL 0 (first ++ (resources ++ tasks)) ≡ Checked.Accepted
-      pl-due = due-record PL header-held 0 (resources ++ tasks)
-
-  pub read-back : (places space : ℕ) → length qs ≤ places → length ts ≤ space → readPlan places space (written sense qs ts) ≡ Read.Plan sense qs ts
-  unfolding readPlan written first resources tasks headerOf
-  read-back places space a b = rw (header-is, shape-due places space a b, resources-read, tasks-read, pass) (ap (λ (s : Sense). Read.Plan s qs ts) (sense-back sense))
+    pub read-back : readPlan (written f ts) ≡ Read.Plan f ts
+    unfolding readPlan readHeader readAfter readBody
+    read-back = rw (first-due, header-back, header-passes, body-passes, frame-back, tasks-same, ok)
 
 -- ---- a file that is read
--- what the header's checks say of its counts
-pub record Few (places space : ℕ) (h : Header) : Type 0 where
+-- what the header's checks say of it
+pub record Few (h : Header) : Type 0 where
   pub sense : h .sense ≤ 1
-  pub resources : h .resources ≤ 16
-  pub tasks : h .tasks ≤ 256
-  pub listed : h .resources ≤ places
-  pub room : h .tasks ≤ space
+  pub tasks : h .tasks ≤ mostTasks
+  pub resources : h .resources ≤ mostResources
 
-pub few : (places space : ℕ) (h : Header) → headerDue places space h ≡ Checked.Accepted → Few places space h
+pub few : (h : Header) → headerDue h ≡ Accepted → Few h
 unfolding headerDue
-few places space h e =
-    let one = refuseIf (ltb 1 (h .sense)) (WrongMark 0) in
-    let many = refuseIf (ltb mostTasks (h .tasks)) TooManyTasks in
+few h e =
     let none = eqb (h .resources) 0 in
     let more = ltb mostResources (h .resources) in
     let count = refuseIf (or none more) ResourceCount in
-    let short = ltb places (h .resources) in
-    let narrow = ltb space (h .tasks) in
-    let lists = refuseIf (or short narrow) ListShort in
-    let p = then-second one (orElse many (orElse count lists)) e in
-    let q = then-second many (orElse count lists) p in
-    let c = unrefused (or none more) ResourceCount (then-first count lists q) in
-    let l = unrefused (or short narrow) ListShort (then-second count lists q) in
+    let a = past (ltb 1 (h .sense)) (WrongMark 0) (orElse (refuseIf (ltb mostTasks (h .tasks)) TooManyTasks) count) e in
+    let b = past (ltb mostTasks (h .tasks)) TooManyTasks count (a .1) in
     record {
-      sense = ltb-false 1 (h .sense) (unrefused (ltb 1 (h .sense)) (WrongMark 0) (then-first one (orElse many (orElse count lists)) e));
-      resources = ltb-false mostResources (h .resources) (neither-second none more c);
-      tasks = ltb-false mostTasks (h .tasks) (unrefused (ltb mostTasks (h .tasks)) TooManyTasks (then-first many (orElse count lists) p));
-      listed = ltb-false places (h .resources) (neither-first short narrow l);
-      room = ltb-false space (h .tasks) (neither-second short narrow l);
+      sense = ltb-false 1 (h .sense) (a .0);
+      tasks = ltb-false mostTasks (h .tasks) (b .0);
+      resources = ltb-false mostResources (h .resources) (or-none none more (unrefused (or none more) ResourceCount (b .1)) .1);
     }
 
-pub length-resourcesIn : (h : Header) (file : List ℕ) → length (resourcesIn h file) ≡ h .resources
-unfolding resourcesIn
-length-resourcesIn h file =
-    length-map (recordsIn RS (h .resources) (drop 6 file)) resourceFrom ∙ length-recordsIn RS (h .resources) (drop 6 file)
+-- a plan is read only past every check
+pub read-is : (c : Checked) (x : Read) {f : Frame} {ts : List Task} → readUnless c x ≡ Read.Plan f ts → (c ≡ Accepted) × (x ≡ Read.Plan f ts)
+read-is Accepted x e = (refl, e)
+read-is (Refused g) x e = (cc, cc)
 
-pub length-tasksIn : (h : Header) (file : List ℕ) → length (tasksIn h file) ≡ h .tasks
+pub header-is : (c : Checked) (h : Header) (file : List ℕ) {f : Frame} {ts : List Task} → planAfter file (headerUnless c h) ≡ Read.Plan f ts → (c ≡ Accepted) × (readAfter h file ≡ Read.Plan f ts)
+header-is Accepted h file e = (refl, e)
+header-is (Refused g) h file e = (cc, cc)
+
+checked-is : (x : Read) {f : Frame} {ts : List Task} → readChecked x ≡ Read.Plan f ts → (x ≡ Read.Plan f ts) × (check f ts ≡ Accepted)
+checked-is (Read.Plan g us) {f} {ts} e =
+    let r = read-is (check g us) (Read.Plan g us) e in
+    let plan = r .1 in
+    let frame : g ≡ f = cc in
+    let tasks : us ≡ ts = cc in
+    (r .1, rw (frame, tasks) at (r .0))
+checked-is (Read.Refuse g) e = (cc, cc)
+
+-- the plan behind a header passes the checks
+pub after-is : (h : Header) (file : List ℕ) {f : Frame} {ts : List Task} → readAfter h file ≡ Read.Plan f ts → (readBody h file ≡ Read.Plan f ts) × (check f ts ≡ Accepted)
+unfolding readAfter
+after-is h file e = checked-is (readBody h file) e
+
+-- what each check says of a file and of the plan that is read from it
+pub record Whole (file : List ℕ) (f : Frame) (ts : List Task) : Type 0 where
+  pub first : due PL 0 file ≡ Accepted
+  pub few : Few (headerIn file)
+  pub listed : runDue resources file (size PL) (headerIn file .resources) ≡ Accepted
+  pub last : runDue (tasks (headerIn file .resources)) file (tasksFrom (headerIn file .resources)) (headerIn file .tasks) ≡ Accepted
+  pub ends : length file ≤ fileEnd (headerIn file)
+  pub frame : frameIn (headerIn file) file ≡ f
+  pub tasks : tasksIn (headerIn file) file ≡ ts
+  pub accepted : check f ts ≡ Accepted
+
+pub whole : {file : List ℕ} {f : Frame} {ts : List Task} → readPlan file ≡ Read.Plan f ts → Whole file f ts
+unfolding readPlan readHeader readBody bodyDue
+whole {file} {f} {ts} e =
+    let h = headerIn file in
+    let rs = runDue resources file (size PL) (h .resources) in
+    let ks = runDue (tasks (h .resources)) file (tasksFrom (h .resources)) (h .tasks) in
+    let left = ltb (fileEnd h) (length file) in
+    let over = refuseIf left (CutShort (fileEnd h)) in
+    let a = header-is (orElse (due PL 0 file) (headerDue h)) h file e in
+    let b = after-is h file (a .1) in
+    let c = past-all (due PL 0 file) (headerDue h) (a .0) in
+    let d = read-is (bodyDue h file) (Read.Plan (frameIn h file) (tasksIn h file)) (b .0) in
+    let r = past-all rs (orElse ks over) (d .0) in
+    let k = past-all ks over (r .1) in
+    let plan = d .1 in
+    let frame : frameIn h file ≡ f = cc in
+    let tasks : tasksIn h file ≡ ts = cc in
+    record {
+      first = c .0;
+      few = few h (c .1);
+      listed = r .0;
+      last = k .0;
+      ends = ltb-false (fileEnd h) (length file) (unrefused left (CutShort (fileEnd h)) (k .1));
+      frame = frame;
+      tasks = tasks;
+      accepted = b .1;
+    }
+
+pub frame-count : (h : Header) (file : List ℕ) → resourceCount (frameIn h file) ≡ h .resources
+unfolding frameIn
+frame-count h file = length-in resources (h .resources) (drop (size PL) file)
+
+pub tasks-count : (h : Header) (file : List ℕ) → length (tasksIn h file) ≡ h .tasks
 unfolding tasksIn
-length-tasksIn h file =
-    length-map (recordsIn TK (h .tasks) (drop (tasksFrom h) file)) taskFrom
-    ∙ length-recordsIn TK (h .tasks) (drop (tasksFrom h) file)
+tasks-count h file = length-in (tasks (h .resources)) (h .tasks) (drop (tasksFrom (h .resources)) file)
 
-pub read-accepted : (c : Checked) (x : Read) {sense : Sense} {qs : List Resource} {ts : List Task} → readUnless c x ≡ Read.Plan sense qs ts → c ≡ Checked.Accepted
-read-accepted Checked.Accepted x e = refl
-read-accepted (Checked.Refuse f) x e = cc
-
-pub read-is : (c : Checked) (x : Read) {sense : Sense} {qs : List Resource} {ts : List Task} → readUnless c x ≡ Read.Plan sense qs ts → x ≡ Read.Plan sense qs ts
-read-is Checked.Accepted x e = e
-read-is (Checked.Refuse f) x e = cc
-
-module _ (places space : ℕ) (file : List ℕ) where
-  abbrev pub head : Header
+-- written again: the three parts of the file
+module _ (file : List ℕ) (f : Frame) (ts : List Task) (w : Whole file f ts) (bytes : Each Byte file) where
+  abbrev head : Header
   head = headerIn file
 
-  -- what is left to check after each check
-  left-over : Checked
-  left-over = refuseIf (ltb (fileEnd head) (length file)) (CutShort (fileEnd head))
+  sense-number : (k : ℕ) → k ≤ 1 → senseNumber (senseFrom k) ≡ k
+  sense-number zero e = refl
+  sense-number (suc k) e = omega arith
 
-  from-tasks : Checked
-  from-tasks = orElse (eachDue TK (head .tasks) (tasksFrom head) (drop (tasksFrom head) file)) left-over
+  header-written : headerNumbers (headerOf (frameIn head file) (length (tasksIn head file))) ≡ numbersIn PL file
+  unfolding headerNumbers headerOf headerIn headerFrom numbersIn fieldsIn frameIn
+  header-written = rw (sense-number (head .sense) (w .few .sense), frame-count head file, tasks-count head file)
 
-  from-resources : Checked
-  from-resources = orElse (eachDue RS (head .resources) 6 (drop 6 file)) from-tasks
+  resources-written : (recordsBytes resources (frameIn head file .resources) ≡ take (head .resources * size (resources .due)) (drop (size PL) file)) × Each Identified (frameIn head file .resources)
+  unfolding frameIn
+  resources-written =
+      records-written resources-lawful Identified resource-identified (head .resources) (size PL) (drop (size PL) file) (w .listed) (bytes-drop (size PL) bytes)
 
-  from-header : Checked
-  from-header = orElse (headerDue places space head) from-resources
+  tasks-written : recordsBytes (tasks (head .resources)) (tasksIn head file) ≡ take (head .tasks * size (taskMark (head .resources))) (drop (tasksFrom (head .resources)) file)
+  unfolding tasksIn
+  tasks-written =
+      let at = tasksFrom (head .resources) in
+      records-written (tasks-lawful (head .resources)) (λ t. Unit {0}) (λ ns held. tt) (head .tasks) at (drop at file) (w .last) (bytes-drop at bytes) .0
 
-  module _ (shape : shapeDue places space head file ≡ Checked.Accepted) where
-    pl : due PL 0 file ≡ Checked.Accepted
-    unfolding shapeDue bodyDue from-header from-resources from-tasks left-over
-    pl = then-first (due PL 0 file) from-header shape
-
-    in-header : from-header ≡ Checked.Accepted
-    unfolding shapeDue bodyDue from-header from-resources from-tasks left-over
-    in-header = then-second (due PL 0 file) from-header shape
-
-    header-passed : headerDue places space head ≡ Checked.Accepted
-    unfolding from-header
-    header-passed = then-first (headerDue places space head) from-resources in-header
-
-    in-resources : from-resources ≡ Checked.Accepted
-    unfolding from-header
-    in-resources = then-second (headerDue places space head) from-resources in-header
-
-    rs : eachDue RS (head .resources) 6 (drop 6 file) ≡ Checked.Accepted
-    unfolding from-resources
-    rs = then-first (eachDue RS (head .resources) 6 (drop 6 file)) from-tasks in-resources
-
-    in-tasks : from-tasks ≡ Checked.Accepted
-    unfolding from-resources
-    in-tasks = then-second (eachDue RS (head .resources) 6 (drop 6 file)) from-tasks in-resources
-
-    tk : eachDue TK (head .tasks) (tasksFrom head) (drop (tasksFrom head) file) ≡ Checked.Accepted
-    unfolding from-tasks
-    tk = then-first (eachDue TK (head .tasks) (tasksFrom head) (drop (tasksFrom head) file)) left-over in-tasks
-
-    nothing-left : length file ≤ fileEnd head
-    unfolding from-tasks left-over
-    nothing-left =
-        ltb-false (fileEnd head) (length file)
-        (unrefused (ltb (fileEnd head) (length file)) (CutShort (fileEnd head))
-        (then-second (eachDue TK (head .tasks) (tasksFrom head) (drop (tasksFrom head) file)) left-over in-tasks))
-
-    -- the file is its three parts
-    parts : take 6 file ++ (take (head .resources * 10) (drop 6 file) ++ take (head .tasks * 36) (drop (tasksFrom head) file)) ≡ file
-    parts =
-        rw (
-          take-all (head .tasks * 36) (drop (tasksFrom head) file) (omega (arith, length-drop (tasksFrom head) file, nothing-left)),
-          ← drop-drop (head .resources * 10) 6 file,
-          take-append-drop (head .resources * 10) (drop 6 file),
-          take-append-drop 6 file,
-        )
-
-    counts : Few places space head
-    counts = few places space head header-passed
-
-    sense-number : (n : ℕ) → n ≤ 1 → senseNumber (senseFrom n) ≡ n
-    sense-number zero e = refl
-    sense-number (suc n) e = omega arith
-
-    header-written : headerNumbers (headerOf (senseFrom (head .sense)) (length (resourcesIn head file)) (length (tasksIn head file))) ≡ numbersIn PL file
-    unfolding headerNumbers headerOf headerIn headerFrom numbersIn fieldsIn
-    header-written = rw (sense-number (head .sense) (counts .sense), length-resourcesIn head file, length-tasksIn head file) header-fields
-      where
-        header-fields : head .sense ∷ head .resources ∷ head .tasks ∷ [] ≡ numbersIn PL file
-        header-fields = refl
-
-    pub enough : (length (resourcesIn head file) ≤ places) × (length (tasksIn head file) ≤ space)
-    enough = (omega (arith, length-resourcesIn head file, counts .listed), omega (arith, length-tasksIn head file, counts .room))
-
-    module _ (good : AllBytes file ≡ true) where
-      resource-numbers-in : map resourceNumbers (resourcesIn head file) ≡ recordsIn RS (head .resources) (drop 6 file)
-      unfolding resourcesIn
-      resource-numbers-in =
-          map-back resourceFrom resourceNumbers resource-numbers
-          (records-held RS (head .resources) 6 (drop 6 file) rs (bytes-drop 6 file good))
-
-      task-numbers-in : map taskNumbers (tasksIn head file) ≡ recordsIn TK (head .tasks) (drop (tasksFrom head) file)
-      unfolding tasksIn
-      task-numbers-in =
-          map-back taskFrom taskNumbers task-numbers
-          (records-held TK (head .tasks) (tasksFrom head) (drop (tasksFrom head) file) tk (bytes-drop (tasksFrom head) file good))
-
-      pub write-back : written (senseFrom (head .sense)) (resourcesIn head file) (tasksIn head file) ≡ file
-      unfolding written headerOf
-      write-back =
-          rw (
-            header-written,
-            resource-numbers-in,
-            task-numbers-in,
-            record-numbers PL 0 file pl good,
-            records-numbers RS (head .resources) 6 (drop 6 file) rs (bytes-drop 6 file good),
-            records-numbers TK (head .tasks) (tasksFrom head) (drop (tasksFrom head) file) tk (bytes-drop (tasksFrom head) file good),
-          )
-          parts
-
-      pub identified : Each Identified (resourcesIn head file)
-      unfolding resourcesIn
-      identified =
-          each-map resourceFrom resource-identified
-          (records-held RS (head .resources) 6 (drop 6 file) rs (bytes-drop 6 file good))
-
-same-read : {s r : Sense} {ps ws : List Resource} {us vs : List Task} → Read.Plan s ps us ≡ Read.Plan r ws vs → (s ≡ r) × (ps ≡ ws) × (us ≡ vs)
-same-read e = (cc, cc, cc)
-
-same-answer : {s r : Sense} {n m k l : ℕ} → ReadAnswer.Plan s n m ≡ ReadAnswer.Plan r k l → (s ≡ r) × (n ≡ k) × (m ≡ l)
-same-answer e = (cc, cc, cc)
-
-never : {f : Refusal} {s : Sense} {n m : ℕ} → ReadAnswer.Refused f ≡ ReadAnswer.Plan s n m → ⊥
-never e = let z : _≡_ {A = ℕ} 0 1 = cc in omega arith
-
--- ---- what stands in rows after a file was read into them
-pub stands-not : {x : Read} {f : Refusal} {later : List Resource} {after : List Task} → x ≡ Read.Refuse f → Stands x later after
-stands-not e = record { stands = λ g. absurd (no (sym e ∙ g)) }
-  where
-    no : {f : Refusal} {sense : Sense} {rs : List Resource} {us : List Task} → Read.Refuse f ≡ Read.Plan sense rs us → ⊥
-    no e = let z : _≡_ {A = ℕ} 0 1 = cc in omega arith
-
-pub stands-is : {x : Read} {sense : Sense} {rs later : List Resource} {us after : List Task} → x ≡ Read.Plan sense rs us → take (length rs) later ≡ rs → take (length us) after ≡ us → Stands x later after
-stands-is {later} {after} e p q =
-    record {
-      stands = λ g.
-          let w = same-read (sym e ∙ g) in
-          (subst (λ (l : List Resource). take (length l) later ≡ l) (w .1) p, subst (λ (l : List Task). take (length l) after ≡ l) (w .2) q);
-    }
-
--- ---- what an answer tells of the plan behind it
-pub record Told (places space : ℕ) (file : List ℕ) (sense : Sense) (n m : ℕ) : Type 0 where
-  pub resources : List Resource
-  pub tasks : List Task
-  pub is : readPlan places space file ≡ Read.Plan sense resources tasks
-  pub counted : (n ≡ length resources) × (m ≡ length tasks)
-  pub few-resources : (n ≤ 16) × (n ≤ places)
-  pub few-tasks : (m ≤ 256) × (m ≤ space)
-
-module _ (places space : ℕ) (file : List ℕ) where
-  bounds : {sense : Sense} {rs : List Resource} {us : List Task} → readPlan places space file ≡ Read.Plan sense rs us → ((length rs ≤ 16) × (length rs ≤ places)) × ((length us ≤ 256) × (length us ≤ space))
-  unfolding readPlan
-  bounds {sense} {rs} {us} e =
-      let h = headerIn file in
-      let plan = Read.Plan (senseFrom (h .sense)) (resourcesIn h file) (tasksIn h file) in
-      let checks = check (resourcesIn h file) (tasksIn h file) in
-      let due = orElse (shapeDue places space h file) checks in
-      let f = counts places space file (then-first (shapeDue places space h file) checks (read-accepted due plan e)) in
-      let w = same-read (read-is due plan e) in
-      let r = ap length (w .1) in
-      let t = ap length (w .2) in (
-        (omega (arith, length-resourcesIn h file, f .resources), omega (arith, length-resourcesIn h file, f .listed)),
-        (omega (arith, length-tasksIn h file, f .tasks), omega (arith, length-tasksIn h file, f .room)),
+  parts : take (size PL) file ++ (take (head .resources * size (resources .due)) (drop (size PL) file) ++ take (head .tasks * size (taskMark (head .resources))) (drop (tasksFrom (head .resources)) file)) ≡ file
+  parts =
+      let q = head .resources * size (resources .due) in
+      let at = tasksFrom (head .resources) in
+      rw (
+        take-all (head .tasks * size (taskMark (head .resources))) (drop at file) (omega (arith, length-drop at file, w .ends)),
+        ← drop-drop q (size PL) file,
+        take-append-drop q (drop (size PL) file),
+        take-append-drop (size PL) file,
       )
 
-  told-by : {sense : Sense} {n m : ℕ} (x : Read) → readPlan places space file ≡ x → readAnswer x ≡ ReadAnswer.Plan sense n m → Told places space file sense n m
-  told-by {sense} {n} {m} (Read.Plan s rs us) e g =
-      let w = same-answer g in
-      let b = bounds e in
-      record {
-        resources = rs;
-        tasks = us;
-        is = e ∙ ap (λ (t : Sense). Read.Plan t rs us) (w .0);
-        counted = (sym (w .1), sym (w .2));
-        few-resources = (omega (arith, w .1, b .0 .0), omega (arith, w .1, b .0 .1));
-        few-tasks = (omega (arith, w .2, b .1 .0), omega (arith, w .2, b .1 .1));
-      }
-  told-by (Read.Refuse f) e g = absurd (never g)
+  pub write-back : written f ts ≡ file
+  unfolding written
+  write-back =
+      rw (← w .frame, ← w .tasks)
+      (rw (header-written, resources-written .0, tasks-written, record-written PL (due-is PL 0 file (w .first)) bytes) parts)
 
-  pub told : {sense : Sense} {n m : ℕ} → readAnswer (readPlan places space file) ≡ ReadAnswer.Plan sense n m → Told places space file sense n m
-  told g = told-by (readPlan places space file) refl g
+  pub identified : Each Identified (f .resources)
+  identified = rw (w .frame) at (resources-written .1)
 
-  refused-by : {f : Refusal} (x : Read) → readAnswer x ≡ ReadAnswer.Refused f → x ≡ Read.Refuse f
-  refused-by (Read.Plan s rs us) g = cc
-  refused-by (Read.Refuse f) g = cc
+-- ---- rows that a plan is read into or written from
+pub header-few : (file : List ℕ) {h : Header} → readHeader file ≡ HeaderAnswer.Counts h → Few h
+unfolding readHeader
+header-few file {h} e =
+    let r = counts-is (orElse (due PL 0 file) (headerDue (headerIn file))) (headerIn file) e in
+    subst Few (r .1) (few (headerIn file) (past-all (due PL 0 file) (headerDue (headerIn file)) (r .0) .1))
+  where
+    counts-is : (c : Checked) (g : Header) → headerUnless c g ≡ HeaderAnswer.Counts h → (c ≡ Accepted) × (g ≡ h)
+    counts-is Accepted g e = (refl, cc)
+    counts-is (Refused x) g e = (cc, cc)
 
-  pub refused : {f : Refusal} → readAnswer (readPlan places space file) ≡ ReadAnswer.Refused f → readPlan places space file ≡ Read.Refuse f
-  refused g = refused-by (readPlan places space file) g
+pub rows-read : (h : Header) (file : List ℕ) (q s : List (List ℤ)) → take (h .resources) (resourcesOf q) ≡ runIn resources file (size PL) (h .resources) → take (h .tasks) (tasksOf s) ≡ runIn (tasks (h .resources)) file (tasksFrom (h .resources)) (h .tasks) → headerPlan h q s ≡ Read.Plan (frameIn h file) (tasksIn h file)
+unfolding frameIn tasksIn
+rows-read h file q s a b = rw (resources-take (h .resources) q, tasks-take (h .tasks) s, a, b)
 
--- fewer places for tasks change nothing, where the header counts no more tasks
-pub room-same : (places space : ℕ) (file : List ℕ) → headerIn file .tasks ≤ space → space ≤ mostTasks → readPlan places space file ≡ readPlan places mostTasks file
-unfolding readPlan shapeDue headerDue
-room-same places space file h few =
-    rw (le-ltb space (headerIn file .tasks) h, le-ltb mostTasks (headerIn file .tasks) (omega (arith, h, few))) refl
-
--- the answer and the lists laid over are what the call is to give
-pub read-lays : {places space : ℕ} {file : List ℕ} {sense : Sense} {n m : ℕ} (t : Told places space file sense n m) (qs : List Resource) (ts : List Task) {later : List Resource} {after : List Task} → later ≡ laid (t .resources) qs → after ≡ laid (t .tasks) ts → readResult (ReadAnswer.Plan sense n m) later after ≡ readInto (readPlan places space file) qs ts
-read-lays {sense} {n} {m} t qs ts {later} {after} p q =
-    ap (λ (k : ℕ). readResult (ReadAnswer.Plan sense k m) later after) (t .counted .0)
-    ∙ ap (λ (k : ℕ). readResult (ReadAnswer.Plan sense (length (t .resources)) k) later after) (t .counted .1)
-    ∙ ap (λ (l : List Resource). readResult (readAnswer (Read.Plan sense (t .resources) (t .tasks))) l after) p
-    ∙ ap (λ (l : List Task). readResult (readAnswer (Read.Plan sense (t .resources) (t .tasks))) (laid (t .resources) qs) l) q
-    ∙ sym (ap (λ (x : Read). readInto x qs ts) (t .is))
-
--- ---- the first places copied, seen as resources and as tasks
-pub resources-copied : (xs : List Resource) (n : ℕ) (from to : List (List ℤ)) {last : List (List ℤ)} → take (length xs) (resourcesOf from) ≡ xs → n ≡ length xs → length xs ≤ length to → last ≡ sets to 0 (take n from) → resourcesOf last ≡ laid xs (resourcesOf to)
-unfolding resourcesOf
-resources-copied = copied resourceOf
-
-pub tasks-copied : (xs : List Task) (n : ℕ) (from to : List (List ℤ)) {last : List (List ℤ)} → take (length xs) (tasksOf from) ≡ xs → n ≡ length xs → length xs ≤ length to → last ≡ sets to 0 (take n from) → tasksOf last ≡ laid xs (tasksOf to)
-unfolding tasksOf
-tasks-copied = copied taskOf
+pub rows-written : (sense : Sense) (q s : List (List ℤ)) → length (written (frameOf sense q) (tasksOf s)) ≡ fileLength (length q) (length s)
+rows-written sense q s = length-written (frameOf sense q) (tasksOf s) ∙ rw (length-resources q, length-tasks s)

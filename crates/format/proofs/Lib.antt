@@ -2,9 +2,8 @@
 pub mod Numbers
 pub mod Stores
 pub mod Records
-pub mod Places
+pub mod Layouts
 pub mod Runs
-pub mod Passed
 pub mod Files
 pub mod RoundTrip
 pub mod Refusing

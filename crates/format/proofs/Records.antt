@@ -1,92 +1,93 @@
--- Laws of records: a record's numbers from its bytes and back, for any table of widths.
+-- Laws of records: a record's numbers from its bytes and back, for any table of widths; and the records of a list, one after another, for
+-- any layout.
 use mathlib.Core.Path.{_≡_, refl, sym, ap, _∙_, subst}
 use mathlib.Core.Bool.{Bool, true, false, not}
 use mathlib.Core.List.{List, [], _∷_, _++_, append-assoc}
-use Prim.Native.Nat.{ℕ, zero, suc, _+_, _-_, _*_, _≤_, _<_}
+use Prim.Native.Nat.{ℕ, zero, suc, _+_, _*_, _≤_, _<_}
 use native.Mathlib.Omega.{arith}
 use native.Mathlib.Nat.{not-suc-le-zero, le-of-suc-le-suc, suc-mul, zero-mul, add-comm}
 use lib.Dec.{eqb, ltb}
 use lib.ListN.{length, getD, take, drop, length-append, length-drop}
-use lib.Seq.{length-take-le, take-at, drop-at, take-add}
+use lib.Seq.{length-take-le, take-at, drop-at, drop-drop, take-add}
 use borrow.Author.Tests.{ltb-false, le-ltb, eqb-true, not-false}
+use Rattle.integers.specs.Lists.{Each}
+use Rattle.integers.specs.Lists.Each.{nothing, also}
 use Rattle.integers.proofs.Tests.{and-first, and-second}
-use Rattle.rules.specs.Calls.{Checked, orElse, refuseIf}
+use Rattle.plan.specs.declared.Checked.the-variants.{Accepted}
 use Rattle.plan.specs.declared.Refusal.{Refusal}
 use Rattle.plan.specs.declared.Refusal.the-variants.{WrongMark, CutShort}
+use Rattle.rules.specs.Calls.{orElse, refuseIf}
+use Rattle.rules.proofs.Checks.{past, past-all}
 use Rattle.format.specs.declared.Mark.{Mark}
 use Rattle.format.specs.declared.Mark.the-variants.{PL, RS, TK}
-use Rattle.format.specs.Numbers.{bytesOf, numberOf}
-use Rattle.format.specs.Format.{mark, widths, total, size, fieldBytes, recordBytes, fieldsIn, numbersIn}
-use Rattle.format.specs.Writing.{recordsBytes, Each, nothing, also}
-use Rattle.format.specs.Reading.{marked, due, eachDue, recordsIn}
-use Rattle.format.proofs.Numbers.{AllBytes, room, length-bytes, number-bytes, bytes-number, number-small, bytes-drop, bytes-take}
-
--- ---- checks, one after another
-pub then-first : (a b : Checked) → orElse a b ≡ Checked.Accepted → a ≡ Checked.Accepted
-then-first Checked.Accepted b h = refl
-then-first (Checked.Refuse f) b h = h
-
-pub then-second : (a b : Checked) → orElse a b ≡ Checked.Accepted → b ≡ Checked.Accepted
-then-second Checked.Accepted b h = h
-then-second (Checked.Refuse f) b h = cc
-
-pub unrefused : (t : Bool) (f : Refusal) → refuseIf t f ≡ Checked.Accepted → t ≡ false
-unrefused true f h = cc
-unrefused false f h = refl
-
-pub not-both {ℓ} : {P : Type ℓ} {f : Refusal} → Checked.Refuse f ≡ Checked.Accepted → P
-not-both e = let z : _≡_ {A = ℕ} 0 1 = cc in absurd (no z)
-  where
-    no : _≡_ {A = ℕ} 0 1 → ⊥
-    no e = omega arith
+use Rattle.format.specs.Numbers.{bytesOf, numberOf, numberAt}
+use Rattle.format.specs.Format.{Layout, mark, markSize, marked, widths, total, size, fieldBytes, recordBytes, fieldsIn, numbersIn}
+use Rattle.format.specs.Writing.{recordsBytes}
+use Rattle.format.specs.Reading.{due, eachDue, recordsIn}
+use Rattle.format.proofs.Numbers.{Byte, beyond, length-bytes, number-bytes, bytes-number, number-small, bytes-drop, bytes-take}
+use Rattle.format.proofs.Stores.{length-mark}
 
 -- ---- fields
 -- as many numbers as widths, each held by its width
 pub data Held : List ℕ → List ℕ → Type 0 where
   none : Held [] []
-  more : {w n : ℕ} {ws ns : List ℕ} → n < room w → Held ws ns → Held (w ∷ ws) (n ∷ ns)
+  more : {w n : ℕ} {ws ns : List ℕ} → n < beyond w → Held ws ns → Held (w ∷ ws) (n ∷ ns)
 
-pub length-fields : {ws ns : List ℕ} → Held ws ns → length (fieldBytes ws ns) ≡ total ws
+length-fields : (ws ns : List ℕ) → length ns ≡ length ws → length (fieldBytes ws ns) ≡ total ws
 unfolding fieldBytes
-length-fields none = refl
-length-fields (more {w} {n} {ws} {ns} h r) =
-    length-append (bytesOf w n) (fieldBytes ws ns) ∙ omega (arith, length-bytes w n, length-fields r)
+length-fields [] ns h = refl
+length-fields (w ∷ ws) [] h = absurd (omega arith)
+length-fields (w ∷ ws) (n ∷ ns) h =
+    length-append (bytesOf w n) (fieldBytes ws ns) ∙ omega (arith, length-bytes w n, length-fields ws ns (omega arith))
 
-pub fields-bytes : {ws ns : List ℕ} → Held ws ns → (rest : List ℕ) → fieldsIn ws (fieldBytes ws ns ++ rest) ≡ ns
+fields-read : {ws ns : List ℕ} → Held ws ns → (rest : List ℕ) → fieldsIn ws (fieldBytes ws ns ++ rest) ≡ ns
 unfolding fieldBytes fieldsIn
-fields-bytes none rest = refl
-fields-bytes (more {w} {n} {ws} {ns} h r) rest =
+fields-read none rest = refl
+fields-read (more {w} {n} {ws} {ns} h r) rest =
     rw (
       append-assoc (bytesOf w n) (fieldBytes ws ns) rest,
       take-at (bytesOf w n) (fieldBytes ws ns ++ rest) w (length-bytes w n),
       drop-at (bytesOf w n) (fieldBytes ws ns ++ rest) w (length-bytes w n),
       number-bytes w n h,
-      fields-bytes r rest,
+      fields-read r rest,
     )
 
-pub held-fields : (ws bs : List ℕ) → total ws ≤ length bs → AllBytes bs ≡ true → Held ws (fieldsIn ws bs)
-unfolding fieldsIn
-held-fields [] bs h a = none
-held-fields (w ∷ ws) bs h a =
-    more
-    (subst (λ (k : ℕ). numberOf (take w bs) < room k) (length-take-le w bs (omega arith)) (number-small (take w bs) (bytes-take w bs a)))
-    (held-fields ws (drop w bs) (omega (arith, length-drop w bs)) (bytes-drop w bs a))
+module _ (w : ℕ) (bs : List ℕ) (h : w ≤ length bs) (a : Each Byte bs) where
+  field-held : numberOf (take w bs) < beyond w
+  field-held =
+      subst (λ (k : ℕ). numberOf (take w bs) < beyond k) (length-take-le w bs h) (number-small (bytes-take w a))
 
-pub bytes-fields : (ws bs : List ℕ) → total ws ≤ length bs → AllBytes bs ≡ true → fieldBytes ws (fieldsIn ws bs) ≡ take (total ws) bs
+  field-written : bytesOf w (numberOf (take w bs)) ≡ take w bs
+  field-written =
+      subst (λ (k : ℕ). bytesOf k (numberOf (take w bs)) ≡ take w bs) (length-take-le w bs h) (bytes-number (bytes-take w a))
+
+fields-held : (ws bs : List ℕ) → total ws ≤ length bs → Each Byte bs → Held ws (fieldsIn ws bs)
+unfolding fieldsIn
+fields-held [] bs h a = none
+fields-held (w ∷ ws) bs h a =
+    more (field-held w bs (omega arith) a) (fields-held ws (drop w bs) (omega (arith, length-drop w bs)) (bytes-drop w a))
+
+fields-written : (ws bs : List ℕ) → total ws ≤ length bs → Each Byte bs → fieldBytes ws (fieldsIn ws bs) ≡ take (total ws) bs
 unfolding fieldBytes fieldsIn
-bytes-fields [] bs h a = refl
-bytes-fields (w ∷ ws) bs h a =
-    let e : bytesOf w (numberOf (take w bs)) ≡ take w bs =
-    subst (λ (k : ℕ). bytesOf k (numberOf (take w bs)) ≡ take w bs) (length-take-le w bs (omega arith))
-    (bytes-number (take w bs) (bytes-take w bs a)) in
-    rw (e, bytes-fields ws (drop w bs) (omega (arith, length-drop w bs)) (bytes-drop w bs a), take-add w (total ws) bs)
+fields-written [] bs h a = refl
+fields-written (w ∷ ws) bs h a =
+    rw (field-written w bs (omega arith) a, fields-written ws (drop w bs) (omega (arith, length-drop w bs)) (bytes-drop w a), take-add w (total ws) bs)
+
+-- where each field of a record stands, counted from its first byte: the widths added up
+abbrev pub placed : List ℕ → List ℕ → ℕ → List ℕ
+placed bs [] o = []
+placed bs (w ∷ ws) o = numberAt bs w o ∷ placed bs ws (o + w)
+
+fields-placed : (bs ws : List ℕ) (o : ℕ) → fieldsIn ws (drop o bs) ≡ placed bs ws o
+unfolding fieldsIn
+fields-placed bs [] o = refl
+fields-placed bs (w ∷ ws) o = rw (drop-drop w o bs, fields-placed bs ws (o + w))
+
+pub numbers-placed : (k : Mark) (bs : List ℕ) → numbersIn k bs ≡ placed bs (widths k) markSize
+unfolding numbersIn
+numbers-placed k bs = fields-placed bs (widths k) markSize
 
 -- ---- one record
-length-mark : (k : Mark) → length (mark k) ≡ 2
-length-mark PL = refl
-length-mark RS = refl
-length-mark TK = refl
-
 own-mark : (k : Mark) (ns rest : List ℕ) → marked k (recordBytes k ns ++ rest) ≡ true
 unfolding marked recordBytes
 own-mark PL ns rest = refl
@@ -98,7 +99,7 @@ mark-pair PL = refl
 mark-pair RS = refl
 mark-pair TK = refl
 
-marked-two : (bs : List ℕ) (k : Mark) → 2 ≤ length bs → marked k bs ≡ true → take 2 bs ≡ mark k
+marked-two : (bs : List ℕ) (k : Mark) → markSize ≤ length bs → marked k bs ≡ true → take markSize bs ≡ mark k
 unfolding marked
 marked-two [] k l m = absurd (not-suc-le-zero l)
 marked-two (a ∷ []) k l m = absurd (not-suc-le-zero (le-of-suc-le-suc l))
@@ -109,115 +110,122 @@ marked-two (a ∷ b ∷ bs) k l m =
     let q : b ≡ getD (mark k) 1 0 = eqb-true b (getD (mark k) 1 0) (and-second s t m) in
     rw (p, q) (mark-pair k)
 
-module _ (k : Mark) {ns : List ℕ} (h : Held (widths k) ns) where
-  pub length-record : length (recordBytes k ns) ≡ size k
-  unfolding recordBytes
-  length-record = length-append (mark k) (fieldBytes (widths k) ns) ∙ omega (arith, length-mark k, length-fields h)
+pub length-record : (k : Mark) (ns : List ℕ) → length ns ≡ length (widths k) → length (recordBytes k ns) ≡ size k
+unfolding recordBytes
+length-record k ns h =
+    length-append (mark k) (fieldBytes (widths k) ns) ∙ omega (arith, length-mark k, length-fields (widths k) ns h)
 
-  pub numbers-record : (rest : List ℕ) → numbersIn k (recordBytes k ns ++ rest) ≡ ns
+pub held-length : {ws ns : List ℕ} → Held ws ns → length ns ≡ length ws
+held-length none = refl
+held-length (more h r) = ap suc (held-length r)
+
+module _ (k : Mark) {ns : List ℕ} (h : Held (widths k) ns) (rest : List ℕ) where
+  pub record-read : numbersIn k (recordBytes k ns ++ rest) ≡ ns
   unfolding recordBytes numbersIn
-  numbers-record rest =
+  record-read =
       rw (
         append-assoc (mark k) (fieldBytes (widths k) ns) rest,
-        drop-at (mark k) (fieldBytes (widths k) ns ++ rest) 2 (length-mark k),
-        fields-bytes h rest,
+        drop-at (mark k) (fieldBytes (widths k) ns ++ rest) markSize (length-mark k),
+        fields-read h rest,
       )
 
-  pub due-record : (at : ℕ) (rest : List ℕ) → due k at (recordBytes k ns ++ rest) ≡ Checked.Accepted
+  pub record-due : (at : ℕ) → due k at (recordBytes k ns ++ rest) ≡ Accepted
   unfolding due
-  due-record at rest =
+  record-due at =
       let bs = recordBytes k ns ++ rest in
-      let n : size k ≤ length bs = omega (arith, length-append (recordBytes k ns) rest, length-record) in
-      simp (le-ltb (length bs) 2 (omega arith), le-ltb (length bs) (size k) n, own-mark k ns rest)
+      let n : size k ≤ length bs = omega (arith, length-append (recordBytes k ns) rest, length-record k ns (held-length h)) in
+      simp (le-ltb (length bs) markSize (omega arith), le-ltb (length bs) (size k) n, own-mark k ns rest)
 
-module _ (k : Mark) (at : ℕ) (bs : List ℕ) (h : due k at bs ≡ Checked.Accepted) where
-  marks : Checked
-  marks = refuseIf (not (marked k bs)) (WrongMark at)
+pub unrefused : (t : Bool) (f : Refusal) → refuseIf t f ≡ Accepted → t ≡ false
+unrefused true f h = cc
+unrefused false f h = refl
 
-  ends : Checked
-  ends = refuseIf (ltb (length bs) (size k)) (CutShort at)
+-- a record that is due: it begins with its mark, and it is whole
+pub record Due (k : Mark) (bs : List ℕ) : Type 0 where
+  pub whole : size k ≤ length bs
+  pub begins : marked k bs ≡ true
 
-  pub due-length : size k ≤ length bs
-  unfolding due marks ends
-  due-length =
-      ltb-false (length bs) (size k)
-      (unrefused (ltb (length bs) (size k)) (CutShort at)
-      (then-second marks ends (then-second (refuseIf (ltb (length bs) 2) (CutShort at)) (orElse marks ends) h)))
+pub due-is : (k : Mark) (at : ℕ) (bs : List ℕ) → due k at bs ≡ Accepted → Due k bs
+unfolding due
+due-is k at bs h =
+    let short = ltb (length bs) (size k) in
+    let a = past (ltb (length bs) markSize) (CutShort at) (orElse (refuseIf (not (marked k bs)) (WrongMark at)) (refuseIf short (CutShort at))) h in
+    let b = past (not (marked k bs)) (WrongMark at) (refuseIf short (CutShort at)) (a .1) in
+    record { whole = ltb-false (length bs) (size k) (unrefused short (CutShort at) (b .1)); begins = not-false (marked k bs) (b .0) }
 
-  pub due-marked : marked k bs ≡ true
-  unfolding due marks ends
-  due-marked =
-      not-false (marked k bs)
-      (unrefused (not (marked k bs)) (WrongMark at)
-      (then-first marks ends (then-second (refuseIf (ltb (length bs) 2) (CutShort at)) (orElse marks ends) h)))
+module _ (k : Mark) {bs : List ℕ} (d : Due k bs) (a : Each Byte bs) where
+  pub record-held : Held (widths k) (numbersIn k bs)
+  unfolding numbersIn
+  record-held = fields-held (widths k) (drop markSize bs) (omega (arith, length-drop markSize bs, d .whole)) (bytes-drop markSize a)
 
-  mark-taken : take 2 bs ≡ mark k
-  mark-taken = marked-two bs k (omega (arith, due-length)) due-marked
-
-  pub record-numbers : AllBytes bs ≡ true → recordBytes k (numbersIn k bs) ≡ take (size k) bs
+  pub record-written : recordBytes k (numbersIn k bs) ≡ take (size k) bs
   unfolding recordBytes numbersIn
-  record-numbers a =
-      rw (← mark-taken, bytes-fields (widths k) (drop 2 bs) (omega (arith, length-drop 2 bs, due-length)) (bytes-drop 2 bs a), take-add 2 (total (widths k)) bs)
+  record-written =
+      rw (
+        ← marked-two bs k (omega (arith, d .whole)) (d .begins),
+        fields-written (widths k) (drop markSize bs) (omega (arith, length-drop markSize bs, d .whole)) (bytes-drop markSize a),
+        take-add markSize (total (widths k)) bs,
+      )
 
--- ---- records of one mark, one after another
-module _ (k : Mark) where
-  pub length-records : {nss : List (List ℕ)} → Each (Held (widths k)) nss → length (recordsBytes k nss) ≡ length nss * size k
+-- ---- the records of a list, one after another
+-- an element that P holds of is written with the mark that is due and numbers that its record holds, and what is read there is the element
+pub record Lawful {A : Type 0} (l : Layout A) (P : A → Type 0) : Type 0 where
+  pub same : (x : A) → l .mark x ≡ l .due
+  pub long : (x : A) → length (l .numbers x) ≡ length (widths (l .due))
+  pub held : (x : A) → P x → Held (widths (l .due)) (l .numbers x)
+  pub back : (x : A) → P x → l .from (l .numbers x) ≡ x
+  pub forth : (ns : List ℕ) → Held (widths (l .due)) ns → l .numbers (l .from ns) ≡ ns
+
+module _ {A : Type 0} {l : Layout A} {P : A → Type 0} (w : Lawful l P) where
+  pub length-one : (x : A) → length (recordBytes (l .mark x) (l .numbers x)) ≡ size (l .due)
+  length-one x = rw (w .same x) (length-record (l .due) (l .numbers x) (w .long x))
+
+  pub length-records : (xs : List A) → length (recordsBytes l xs) ≡ length xs * size (l .due)
   unfolding recordsBytes
-  length-records nothing = omega arith
-  length-records (also {x = ns} {xs = nss} h r) =
-      length-append (recordBytes k ns) (recordsBytes k nss)
-      ∙ ap (λ (n : ℕ). n + length (recordsBytes k nss)) (length-record k h)
-      ∙ ap (λ (n : ℕ). size k + n) (length-records r)
-      ∙ one-more (length nss)
-    where
-      one-more : (n : ℕ) → size k + n * size k ≡ suc n * size k
-      one-more n = sym (suc-mul n (size k) ∙ add-comm (n * size k) (size k))
+  length-records [] = sym (zero-mul (size (l .due)))
+  length-records (x ∷ xs) =
+      length-append (recordBytes (l .mark x) (l .numbers x)) (recordsBytes l xs)
+      ∙ rw (length-one x, length-records xs) (sym (suc-mul (length xs) (size (l .due)) ∙ add-comm (length xs * size (l .due)) (size (l .due))))
 
-  pub due-records : {nss : List (List ℕ)} → Each (Held (widths k)) nss → (at : ℕ) (rest : List ℕ) → eachDue k (length nss) at (recordsBytes k nss ++ rest) ≡ Checked.Accepted
-  unfolding recordsBytes eachDue
-  due-records nothing at rest = refl
-  due-records (also {x = ns} {xs = nss} h r) at rest =
-      rw (
-        append-assoc (recordBytes k ns) (recordsBytes k nss) rest,
-        due-record k h at (recordsBytes k nss ++ rest),
-        drop-at (recordBytes k ns) (recordsBytes k nss ++ rest) (size k) (length-record k h),
-      )
-      (due-records r (at + size k) rest)
+  -- a list written and read
+  pub records-back : {xs : List A} → Each P xs → (rest : List ℕ) (at : ℕ) → (eachDue (l .due) (length xs) at (recordsBytes l xs ++ rest) ≡ Accepted) × (recordsIn l (length xs) (recordsBytes l xs ++ rest) ≡ xs)
+  unfolding recordsBytes eachDue recordsIn
+  records-back nothing rest at = (refl, refl)
+  records-back (also {x} {xs} p ps) rest at =
+      let k = l .due in
+      let later = recordsBytes l xs ++ rest in
+      let h = w .held x p in
+      let split : recordBytes (l .mark x) (l .numbers x) ++ recordsBytes l xs ++ rest ≡ recordBytes k (l .numbers x) ++ later =
+      rw (w .same x) (append-assoc (recordBytes k (l .numbers x)) (recordsBytes l xs) rest) in
+      let past : drop (size k) (recordBytes k (l .numbers x) ++ later) ≡ later =
+      drop-at (recordBytes k (l .numbers x)) later (size k) (length-record k (l .numbers x) (w .long x)) in
+      let r = records-back ps rest (at + size k) in
+      (rw (split, record-due k h later at, past) (r .0), rw (split, record-read k h later, past, w .back x p, r .1))
 
-  pub numbers-records : {nss : List (List ℕ)} → Each (Held (widths k)) nss → (rest : List ℕ) → recordsIn k (length nss) (recordsBytes k nss ++ rest) ≡ nss
-  unfolding recordsBytes recordsIn
-  numbers-records nothing rest = refl
-  numbers-records (also {x = ns} {xs = nss} h r) rest =
-      rw (
-        append-assoc (recordBytes k ns) (recordsBytes k nss) rest,
-        numbers-record k h (recordsBytes k nss ++ rest),
-        drop-at (recordBytes k ns) (recordsBytes k nss ++ rest) (size k) (length-record k h),
-        numbers-records r rest,
-      )
+  -- and read and written
+  module _ (Q : A → Type 0) (f : (ns : List ℕ) → Held (widths (l .due)) ns → Q (l .from ns)) where
+    pub records-written : (n at : ℕ) (bs : List ℕ) → eachDue (l .due) n at bs ≡ Accepted → Each Byte bs → (recordsBytes l (recordsIn l n bs) ≡ take (n * size (l .due)) bs) × Each Q (recordsIn l n bs)
+    unfolding eachDue recordsIn recordsBytes
+    records-written zero at bs h a = (rw (zero-mul (size (l .due))), nothing)
+    records-written (suc n) at bs h a =
+        let k = l .due in
+        let e = past-all (due k at bs) (eachDue k n (at + size k) (drop (size k) bs)) h in
+        let d = due-is k at bs (e .0) in
+        let held = record-held k d a in
+        let r = records-written n (at + size k) (drop (size k) bs) (e .1) (bytes-drop (size k) a) in (
+          rw (
+            w .same (l .from (numbersIn k bs)),
+            w .forth (numbersIn k bs) held,
+            record-written k d a,
+            r .0,
+            suc-mul n (size k),
+            add-comm (n * size k) (size k),
+            take-add (size k) (n * size k) bs,
+          ),
+          also (f (numbersIn k bs) held) (r .1),
+        )
 
-  pub length-recordsIn : (n : ℕ) (bs : List ℕ) → length (recordsIn k n bs) ≡ n
-  unfolding recordsIn
-  length-recordsIn zero bs = refl
-  length-recordsIn (suc n) bs = ap suc (length-recordsIn n (drop (size k) bs))
-
-  pub records-numbers : (n at : ℕ) (bs : List ℕ) → eachDue k n at bs ≡ Checked.Accepted → AllBytes bs ≡ true → recordsBytes k (recordsIn k n bs) ≡ take (n * size k) bs
-  unfolding eachDue recordsIn recordsBytes
-  records-numbers zero at bs h a = rw (zero-mul (size k))
-  records-numbers (suc n) at bs h a =
-      let rest = eachDue k n (at + size k) (drop (size k) bs) in
-      rw (
-        record-numbers k at bs (then-first (due k at bs) rest h) a,
-        records-numbers n (at + size k) (drop (size k) bs) (then-second (due k at bs) rest h) (bytes-drop (size k) bs a),
-        suc-mul n (size k),
-        add-comm (n * size k) (size k),
-        take-add (size k) (n * size k) bs,
-      )
-
-  pub records-held : (n at : ℕ) (bs : List ℕ) → eachDue k n at bs ≡ Checked.Accepted → AllBytes bs ≡ true → Each (Held (widths k)) (recordsIn k n bs)
-  unfolding eachDue recordsIn numbersIn
-  records-held zero at bs h a = nothing
-  records-held (suc n) at bs h a =
-      let rest = eachDue k n (at + size k) (drop (size k) bs) in
-      let own = due-length k at bs (then-first (due k at bs) rest h) in
-      also (held-fields (widths k) (drop 2 bs) (omega (arith, length-drop 2 bs)) (bytes-drop 2 bs a))
-      (records-held n (at + size k) (drop (size k) bs) (then-second (due k at bs) rest h) (bytes-drop (size k) bs a))
+pub length-in : {A : Type 0} (l : Layout A) (n : ℕ) (bs : List ℕ) → length (recordsIn l n bs) ≡ n
+unfolding recordsIn
+length-in l zero bs = refl
+length-in l (suc n) bs = ap suc (length-in l n (drop (size (l .due)) bs))

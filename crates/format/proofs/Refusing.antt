@@ -9,82 +9,110 @@ use native.Mathlib.Nat.{suc-mul}
 use lib.Dec.{eqb, ltb}
 use lib.ListN.{length, drop}
 use Rattle.integers.specs.Tests.{or}
+use Rattle.plan.specs.declared.Checked.{Checked}
+use Rattle.plan.specs.declared.Checked.the-variants.{Accepted, Refused}
 use Rattle.plan.specs.declared.Refusal.{Refusal}
 use Rattle.plan.specs.declared.Refusal.the-variants.{TooManyTasks, ResourceCount, WrongMark, CutShort, ListShort}
 use Rattle.plan.specs.Refusals.{place}
-use Rattle.rules.specs.Calls.{Checked, orElse, refuseIf, check, mostResources, mostTasks}
-use Rattle.rules.proofs.Bounds.{PlacedTo, placed-then, placed-if, placed-unless, placed-more, check-placed}
+use Rattle.plan.specs.Tasks.{mostResources, mostTasks}
+use Rattle.rules.specs.Calls.{orElse, refuseIf, check}
+use Rattle.rules.proofs.Checks.{past-all}
+use Rattle.rules.proofs.Bounds.{PlacedTo, lastPlace, placed-then, placed-if, placed-unless, placed-more, check-placed}
 use Rattle.format.specs.declared.Mark.{Mark}
-use Rattle.format.specs.declared.Mark.the-variants.{PL, RS, TK}
+use Rattle.format.specs.declared.Mark.the-variants.{PL}
 use Rattle.format.specs.declared.Header.{Header}
-use Rattle.format.specs.Format.{size}
-use Rattle.format.specs.Reading.{Read, marked, due, eachDue, headerIn, tasksFrom, fileEnd, resourcesIn, tasksIn, headerDue, bodyDue, shapeDue, readUnless, readPlan}
+use Rattle.format.specs.declared.HeaderAnswer.{HeaderAnswer}
+use Rattle.format.specs.Format.{resources, tasks, size, markSize, marked, tasksFrom, longestFile}
+use Rattle.format.specs.Reading.{Read, due, eachDue, runDue, headerIn, headerDue, listsDue, fileEnd, frameIn, tasksIn, bodyDue, headerUnless, readUnless, readChecked, readHeader, readBody, readAfter, readPlan, lentAfter, planAfter, readLent}
 use Rattle.format.proofs.Files.{Few, few}
-
--- PL, 16 RS and 256 TK
-abbrev pub longestFile : ℕ
-longestFile = size PL + mostResources * size RS + mostTasks * size TK
 
 pub longest-is : longestFile ≡ 9382
 longest-is = refl
 
+-- a check whose place, where it refuses, lies within the longest file
+abbrev Placed : Checked → Type 0
+Placed c = PlacedTo longestFile c
+
 -- ---- a record is refused at its first byte
-module _ (b : ℕ) (k : Mark) where
-  due-placed : (at : ℕ) (bs : List ℕ) → at ≤ b → PlacedTo b (due k at bs)
-  unfolding due
-  due-placed at bs l =
-      placed-unless b (ltb (length bs) 2) (CutShort at) (orElse (refuseIf (not (marked k bs)) (WrongMark at)) (refuseIf (ltb (length bs) (size k)) (CutShort at))) l λ e.
-      placed-unless b (not (marked k bs)) (WrongMark at) (refuseIf (ltb (length bs) (size k)) (CutShort at)) l λ f.
-      placed-if b (ltb (length bs) (size k)) (CutShort at) l
+due-placed : (k : Mark) (at : ℕ) (bs : List ℕ) → at ≤ longestFile → Placed (due k at bs)
+unfolding due
+due-placed k at bs l =
+    let ends = refuseIf (ltb (length bs) (size k)) (CutShort at) in
+    placed-unless longestFile (ltb (length bs) markSize) (CutShort at) (orElse (refuseIf (not (marked k bs)) (WrongMark at)) ends) l λ e.
+    placed-unless longestFile (not (marked k bs)) (WrongMark at) ends l λ f.
+    placed-if longestFile (ltb (length bs) (size k)) (CutShort at) l
 
-  each-placed : (n at : ℕ) (bs : List ℕ) → at + n * size k ≤ b → PlacedTo b (eachDue k n at bs)
-  unfolding eachDue
-  each-placed zero at bs l = tt
-  each-placed (suc n) at bs l =
-      placed-then b (due k at bs) (eachDue k n (at + size k) (drop (size k) bs)) (due-placed at bs (omega arith))
-      (λ e. each-placed n (at + size k) (drop (size k) bs) (omega (arith, l, suc-mul n (size k))))
+each-placed : (k : Mark) (n at : ℕ) (bs : List ℕ) → at + n * size k ≤ longestFile → Placed (eachDue k n at bs)
+unfolding eachDue
+each-placed k zero at bs l = tt
+each-placed k (suc n) at bs l =
+    placed-then longestFile (due k at bs) (eachDue k n (at + size k) (drop (size k) bs)) (due-placed k at bs (omega arith))
+    (λ e. each-placed k n (at + size k) (drop (size k) bs) (omega (arith, l, suc-mul n (size k))))
 
--- ---- the file
-module _ (places space : ℕ) where
-  header-placed : (h : Header) → PlacedTo longestFile (headerDue places space h)
-  unfolding headerDue
-  header-placed h =
-      let none = or (eqb (h .resources) 0) (ltb mostResources (h .resources)) in
-      let short = refuseIf (or (ltb places (h .resources)) (ltb space (h .tasks))) ListShort in
-      placed-unless longestFile (ltb 1 (h .sense)) (WrongMark 0) (orElse (refuseIf (ltb mostTasks (h .tasks)) TooManyTasks) (orElse (refuseIf none ResourceCount) short)) (omega arith) λ e.
-      placed-unless longestFile (ltb mostTasks (h .tasks)) TooManyTasks (orElse (refuseIf none ResourceCount) short) (omega arith) λ f.
-      placed-unless longestFile none ResourceCount short (omega arith) λ g.
-      placed-if longestFile (or (ltb places (h .resources)) (ltb space (h .tasks))) ListShort (omega arith)
+-- ---- the header
+header-placed : (h : Header) → Placed (headerDue h)
+unfolding headerDue
+header-placed h =
+    let none = or (eqb (h .resources) 0) (ltb mostResources (h .resources)) in
+    placed-unless longestFile (ltb 1 (h .sense)) (WrongMark 0) (orElse (refuseIf (ltb mostTasks (h .tasks)) TooManyTasks) (refuseIf none ResourceCount)) (omega arith) λ e.
+    placed-unless longestFile (ltb mostTasks (h .tasks)) TooManyTasks (refuseIf none ResourceCount) (omega arith) λ f.
+    placed-if longestFile none ResourceCount (omega arith)
 
-  body-placed : (h : Header) (file : List ℕ) → Few places space h → PlacedTo longestFile (bodyDue h file)
-  unfolding bodyDue
-  body-placed h file f =
-      let r = f .resources in
-      let t = f .tasks in
-      let left = refuseIf (ltb (fileEnd h) (length file)) (CutShort (fileEnd h)) in
-      let tasks = eachDue TK (h .tasks) (tasksFrom h) (drop (tasksFrom h) file) in
-      placed-then longestFile (eachDue RS (h .resources) (size PL) (drop (size PL) file)) (orElse tasks left) (each-placed longestFile RS (h .resources) (size PL) (drop (size PL) file) (omega (arith, r))) λ e.
-      placed-then longestFile tasks left (each-placed longestFile TK (h .tasks) (tasksFrom h) (drop (tasksFrom h) file) (omega (arith, r, t))) λ g.
-      placed-if longestFile (ltb (fileEnd h) (length file)) (CutShort (fileEnd h)) (omega (arith, r, t))
+-- ---- the body
+body-placed : (h : Header) (file : List ℕ) → Few h → Placed (bodyDue h file)
+unfolding bodyDue
+body-placed h file f =
+    let r = f .resources in
+    let t = f .tasks in
+    let at = tasksFrom (h .resources) in
+    let left = refuseIf (ltb (fileEnd h) (length file)) (CutShort (fileEnd h)) in
+    let last = runDue (tasks (h .resources)) file at (h .tasks) in
+    placed-then longestFile (runDue resources file (size PL) (h .resources)) (orElse last left) (each-placed (resources .due) (h .resources) (size PL) (drop (size PL) file) (omega arith)) λ e.
+    placed-then longestFile last left (each-placed (tasks (h .resources) .due) (h .tasks) at (drop at file) (omega arith)) λ g.
+    placed-if longestFile (ltb (fileEnd h) (length file)) (CutShort (fileEnd h)) (omega arith)
 
-  shape-placed : (h : Header) (file : List ℕ) → PlacedTo longestFile (shapeDue places space h file)
-  unfolding shapeDue
-  shape-placed h file =
-      placed-then longestFile (due PL 0 file) (orElse (headerDue places space h) (bodyDue h file)) (due-placed longestFile PL 0 file (omega arith)) λ e.
-      placed-then longestFile (headerDue places space h) (bodyDue h file) (header-placed h) λ f.
-      body-placed h file (few places space h f)
+-- ---- what is read
+abbrev PlacedRead : Read → Type 0
+PlacedRead (Read.Plan f ts) = Unit {0}
+PlacedRead (Read.Refuse f) = place f ≤ longestFile
 
-  unless-place : (c : Checked) (x : Read) (f : Refusal) → PlacedTo longestFile c → ((g : Refusal) → x ≡ Read.Refuse g → ⊥) → readUnless c x ≡ Read.Refuse f → place f ≤ longestFile
-  unless-place Checked.Accepted x f p n e = absurd (n f e)
-  unless-place (Checked.Refuse g) x f p n e = let q : g ≡ f = cc in subst (λ (y : Refusal). place y ≤ longestFile) q p
+unless-placed : (c : Checked) (x : Read) → Placed c → PlacedRead x → PlacedRead (readUnless c x)
+unless-placed Accepted x p q = q
+unless-placed (Refused f) x p q = p
 
-  -- any refusal by the reader, 1 to 6, 8, 9 and 11
-  pub read-place : (file : List ℕ) (f : Refusal) → readPlan places space file ≡ Read.Refuse f → place f ≤ longestFile
-  unfolding readPlan
-  read-place file f e =
+checked-placed : (x : Read) → PlacedRead x → PlacedRead (readChecked x)
+checked-placed (Read.Plan f ts) p =
+    unless-placed (check f ts) (Read.Plan f ts) (placed-more lastPlace longestFile (omega arith) (check f ts) (check-placed f ts)) tt
+checked-placed (Read.Refuse f) p = p
+
+after-placed : (h : Header) (file : List ℕ) → Few h → PlacedRead (readAfter h file)
+unfolding readAfter readBody
+after-placed h file f =
+    let x = Read.Plan (frameIn h file) (tasksIn h file) in
+    checked-placed (readUnless (bodyDue h file) x) (unless-placed (bodyDue h file) x (body-placed h file f) tt)
+
+-- by what the header answers
+module _ (file : List ℕ) (next : HeaderAnswer → Read) (refuses : (f : Refusal) → next (HeaderAnswer.Refused f) ≡ Read.Refuse f) where
+  answer-placed : (c : Checked) (h : Header) → Placed c → (c ≡ Accepted → PlacedRead (next (HeaderAnswer.Counts h))) → PlacedRead (next (headerUnless c h))
+  answer-placed Accepted h p q = q refl
+  answer-placed (Refused f) h p q = rw (refuses f) p
+
+  file-placed : ((h : Header) → Few h → PlacedRead (next (HeaderAnswer.Counts h))) → PlacedRead (next (readHeader file))
+  unfolding readHeader
+  file-placed q =
       let h = headerIn file in
-      let shape = shapeDue places space h file in
-      let checks = check (resourcesIn h file) (tasksIn h file) in
-      unless-place (orElse shape checks) _ f
-      (placed-then longestFile shape checks (shape-placed h file) (λ g. placed-more 255 longestFile (omega arith) checks (check-placed (resourcesIn h file) (tasksIn h file))))
-      (λ g d. let q : _≡_ {A = ℕ} 0 1 = cc in absurd (omega arith)) e
+      answer-placed (orElse (due PL 0 file) (headerDue h)) h
+      (placed-then longestFile (due PL 0 file) (headerDue h) (due-placed PL 0 file (omega arith)) (λ e. header-placed h))
+      (λ e. q h (few h (past-all (due PL 0 file) (headerDue h) e .1)))
+
+-- any refusal of a file: 1 to 6, 8 and 9, and by lists of so many places 11
+pub read-place : (file : List ℕ) (f : Refusal) → readPlan file ≡ Read.Refuse f → place f ≤ longestFile
+unfolding readPlan
+read-place file f e = subst PlacedRead e (file-placed file (planAfter file) (λ g. refl) (λ h w. after-placed h file w))
+
+pub lent-place : (places room : ℕ) (file : List ℕ) (f : Refusal) → readLent places room file ≡ Read.Refuse f → place f ≤ longestFile
+unfolding readLent listsDue
+lent-place places room file f e =
+    subst PlacedRead e (file-placed file (lentAfter places room file) (λ g. refl) λ h w.
+    unless-placed (listsDue places room h) (readAfter h file)
+    (placed-if longestFile (or (ltb places (h .resources)) (ltb room (h .tasks))) ListShort (omega arith)) (after-placed h file w))

@@ -1,8 +1,11 @@
 -- The table of the page's "Plan file": each record's mark, and the width in bytes of each field after it. Sizes and places of fields
 -- all come from here.
+use mathlib.Core.Bool.{Bool}
 use mathlib.Core.List.{List, [], _∷_, _++_}
-use Prim.Native.Nat.{ℕ, zero, suc, _+_}
+use Prim.Native.Nat.{ℕ, zero, suc, _+_, _*_}
+use lib.Dec.{eqb}
 use lib.ListN.{getD, take, drop}
+use Rattle.integers.specs.Tests.{and}
 use Rattle.plan.specs.declared.Task.{Task}
 use Rattle.plan.specs.declared.Resource.{Resource}
 use Rattle.plan.specs.declared.Span.{Span}
@@ -11,6 +14,7 @@ use Rattle.plan.specs.declared.Sense.{Sense}
 use Rattle.plan.specs.declared.Sense.the-variants.{AtMost, AtLeast}
 use Rattle.plan.specs.Days.{day}
 use Rattle.plan.specs.Powers.{power}
+use Rattle.plan.specs.Tasks.{mostResources, mostTasks}
 use Rattle.format.specs.declared.Mark.{Mark}
 use Rattle.format.specs.declared.Mark.the-variants.{PL, RS, TK}
 use Rattle.format.specs.declared.Header.{Header}
@@ -23,7 +27,7 @@ mark RS = 82 ∷ 83 ∷ []
 mark TK = 84 ∷ 75 ∷ []
 
 -- PL: "sense 1, resource count 1, task count 2"; RS: "identifier 4, limit 4";
--- TK: "set 2, then low and high, 4 each, of origin, duration, end, height"
+-- TK: "set 2 (bit k is resource k), then low and high, 4 each, of origin, duration, end, height"
 abbrev pub widths : Mark → List ℕ
 widths PL = 1 ∷ 1 ∷ 2 ∷ []
 widths RS = 4 ∷ 4 ∷ []
@@ -33,9 +37,17 @@ abbrev pub total : List ℕ → ℕ
 total [] = 0
 total (w ∷ ws) = w + total ws
 
+-- the mark's own two bytes
+abbrev pub markSize : ℕ
+markSize = 2
+
 -- "total": 6, 10 and 36
 abbrev pub size : Mark → ℕ
-size k = 2 + total (widths k)
+size k = markSize + total (widths k)
+
+-- these bytes begin with the mark, in both of its bytes
+unfoldable pub marked : Mark → List ℕ → Bool
+marked k bs = and (eqb (getD bs 0 0) (getD (mark k) 0 0)) (eqb (getD bs 1 0) (getD (mark k) 1 0))
 
 -- ---- a record's bytes from its numbers, and its numbers from its bytes
 unfoldable pub fieldBytes : List ℕ → List ℕ → List ℕ
@@ -51,7 +63,7 @@ fieldsIn [] bs = []
 fieldsIn (w ∷ ws) bs = numberOf (take w bs) ∷ fieldsIn ws (drop w bs)
 
 unfoldable pub numbersIn : Mark → List ℕ → List ℕ
-numbersIn k bs = fieldsIn (widths k) (drop 2 bs)
+numbersIn k bs = fieldsIn (widths k) (drop markSize bs)
 
 -- ---- what the numbers of a record stand for
 abbrev pub field : List ℕ → ℕ → ℕ
@@ -77,21 +89,21 @@ taskNumbers t =
     ∷ unsignedOf (t .end .low .0) ∷ unsignedOf (t .end .high .0)
     ∷ unsignedOf (t .height .low .0) ∷ unsignedOf (t .height .high .0) ∷ []
 
--- the range whose low and high are the fields k and m
-abbrev pub daysFrom : List ℕ → ℕ → ℕ → Span
-daysFrom ns k m = record { low = day (signedOf (field ns k)); high = day (signedOf (field ns m)) }
+-- the range whose low and high are two numbers
+abbrev pub daysFrom : ℕ → ℕ → Span
+daysFrom x y = record { low = day (signedOf x); high = day (signedOf y) }
 
-abbrev pub powersFrom : List ℕ → ℕ → ℕ → PowerSpan
-powersFrom ns k m = record { low = power (signedOf (field ns k)); high = power (signedOf (field ns m)) }
+abbrev pub powersFrom : ℕ → ℕ → PowerSpan
+powersFrom x y = record { low = power (signedOf x); high = power (signedOf y) }
 
 unfoldable pub taskFrom : List ℕ → Task
 taskFrom ns =
     record {
       set = field ns 0;
-      origin = daysFrom ns 1 2;
-      duration = daysFrom ns 3 4;
-      end = daysFrom ns 5 6;
-      height = powersFrom ns 7 8;
+      origin = daysFrom (field ns 1) (field ns 2);
+      duration = daysFrom (field ns 3) (field ns 4);
+      end = daysFrom (field ns 5) (field ns 6);
+      height = powersFrom (field ns 7) (field ns 8);
     }
 
 -- "A sense for the whole plan: 0 at most, 1 at least"
@@ -102,3 +114,36 @@ senseNumber AtLeast = 1
 abbrev pub senseFrom : ℕ → Sense
 senseFrom zero = AtMost
 senseFrom (suc n) = AtLeast
+
+-- ---- the lists of a plan, record after record
+-- the mark that a resource's record is written with, and that of every task of a plan of so many resources
+abbrev pub resourceMark : Resource → Mark
+resourceMark q = RS
+
+abbrev pub taskMark : ℕ → Mark
+taskMark n = TK
+
+-- how the elements of a list stand in a file: the mark and the numbers that each is written with, the mark that is due where one is read,
+-- and the element that the numbers there stand for
+pub record Layout (A : Type 0) : Type 0 where
+  pub mark : A → Mark
+  pub numbers : A → List ℕ
+  pub due : Mark
+  pub from : List ℕ → A
+
+abbrev pub resources : Layout Resource
+resources = record { mark = resourceMark; numbers = resourceNumbers; due = RS; from = resourceFrom }
+
+abbrev pub tasks : ℕ → Layout Task
+tasks n = record { mark = λ t. taskMark n; numbers = taskNumbers; due = taskMark n; from = taskFrom }
+
+-- "One PL, all RS, all TK": where the task records start, and where the file ends, of so many resources and tasks
+abbrev pub tasksFrom : ℕ → ℕ
+tasksFrom n = size PL + n * size (resources .due)
+
+abbrev pub fileLength : ℕ → ℕ → ℕ
+fileLength n m = tasksFrom n + m * size (taskMark n)
+
+-- "at most 9,382 bytes"
+abbrev pub longestFile : ℕ
+longestFile = fileLength mostResources mostTasks

@@ -2,6 +2,7 @@
 use mathlib.Core.List.{List, [], _∷_}
 use Prim.Native.Nat.{ℕ, zero, suc, _+_, _*_, _/_, _%_}
 use lib.IntN.{ℤ}
+use lib.ListN.{take, drop}
 use mir.Syntax.{w32}
 use mir.Val.{toZ, ofZ}
 
@@ -14,6 +15,10 @@ bytesOf (suc w) n = n % 256 ∷ bytesOf w (n / 256)
 unfoldable pub numberOf : List ℕ → ℕ
 numberOf [] = 0
 numberOf (b ∷ bs) = b + 256 * numberOf bs
+
+-- the number in w bytes from a place on
+abbrev pub numberAt : List ℕ → ℕ → ℕ → ℕ
+numberAt bs w at = numberOf (take w (drop at bs))
 
 -- a signed number of four bytes: from 2 ^ 31 on it stands for itself less 2 ^ 32
 abbrev pub signedOf : ℕ → ℤ

@@ -1,38 +1,28 @@
-// Marks, and numbers in lent bytes at a place: little-endian, signed ones in two's complement.
+// Numbers in lent bytes at a place: little-endian, signed ones in two's complement.
 ghost use mathlib.Core.Path.{_≡_};
 ghost use Prim.Native.Nat.{_+_, _≤_, _<_};
-ghost use lib.ListN.{length, getD, take, drop};
+ghost use lib.ListN.{length};
 ghost use lib.Seq.{sets};
 ghost use mir.Syntax.{w32};
 ghost use mir.Val.{SFits};
-ghost use Rattle.plan.specs.Days.{day};
-ghost use Rattle.plan.specs.Powers.{power};
-ghost use Rattle.format.specs.Numbers.{bytesOf, numberOf, signedOf, unsignedOf};
-ghost use Rattle.format.specs.Format.{mark};
-use crate::Mark;
+ghost use Rattle.plan.specs.Days.{daysOf};
+ghost use Rattle.plan.specs.Powers.{powersOf};
+ghost use Rattle.format.specs.Numbers.{bytesOf, numberAt, signedOf, unsignedOf};
+ghost use Rattle.format.specs.Format.{daysFrom, powersFrom};
+ghost use Rattle.format.specs.Writing.{Small, rangeStored};
 use plan::Day;
 use plan::Power;
+use plan::PowerSpan;
+use plan::Span;
 
-// A mark's two bytes.
-pub fn first_byte(k: Mark) -> u8
-    ensures { λ r. ⌜ r ≡ getD (mark k) 0 0 ⌝ }
-{
-    match k {
-        Mark::PL => b'P',
-        Mark::RS => b'R',
-        Mark::TK => b'T',
-    }
-}
+// A byte has so many values, two bytes so many; a number of four bytes from the half on stands for itself less the whole.
+const BYTE: u32 = 1 << 8;
 
-pub fn second_byte(k: Mark) -> u8
-    ensures { λ r. ⌜ r ≡ getD (mark k) 1 0 ⌝ }
-{
-    match k {
-        Mark::PL => b'L',
-        Mark::RS => b'S',
-        Mark::TK => b'K',
-    }
-}
+const PAIR: u32 = 1 << 16;
+
+const HALF: u32 = 1 << 31;
+
+const WHOLE: i64 = 1 << 32;
 
 fn wide(b: u8) -> u32
     ensures { λ r. ⌜ r ≡ b ⌝ }
@@ -43,7 +33,7 @@ fn wide(b: u8) -> u32
 
 pub fn one_at(b: &[u8], at: usize) -> u32
     requires { ⌜ at + 1 ≤ length (now b) ⌝ }
-    ensures { λ r. ⌜ r ≡ numberOf (take 1 (drop at (now (b .entry)))) ⌝ }
+    ensures { λ r. ⌜ r ≡ numberAt (now (b .entry)) 1 at ⌝ }
     ensures { λ r. ⌜ r < 256 ⌝ }
 {
     wide(b[at])
@@ -51,48 +41,63 @@ pub fn one_at(b: &[u8], at: usize) -> u32
 
 pub fn two_at(b: &[u8], at: usize) -> u32
     requires { ⌜ at + 2 ≤ length (now b) ⌝ }
-    ensures { λ r. ⌜ r ≡ numberOf (take 2 (drop at (now (b .entry)))) ⌝ }
+    ensures { λ r. ⌜ r ≡ numberAt (now (b .entry)) 2 at ⌝ }
     ensures { λ r. ⌜ r < 65536 ⌝ }
 {
-    one_at(b, at) + 256 * one_at(b, at + 1)
+    one_at(b, at) + BYTE * one_at(b, at + 1)
 }
 
 fn four_at(b: &[u8], at: usize) -> u32
     requires { ⌜ at + 4 ≤ length (now b) ⌝ }
-    ensures { λ r. ⌜ r ≡ numberOf (take 4 (drop at (now (b .entry)))) ⌝ }
+    ensures { λ r. ⌜ r ≡ numberAt (now (b .entry)) 4 at ⌝ }
 {
-    two_at(b, at) + 65536 * two_at(b, at + 2)
+    two_at(b, at) + PAIR * two_at(b, at + 2)
 }
 
 fn signed(x: u32) -> i32
     ensures { λ r. ⌜ r ≡ signedOf x ⌝ }
 {
-    if x < 0x8000_0000 {
+    if x < HALF {
         x as i32
     } else {
-        (x as i64 - 0x1_0000_0000) as i32
+        (x as i64 - WHOLE) as i32
     }
 }
 
 pub fn id_at(b: &[u8], at: usize) -> i32
     requires { ⌜ at + 4 ≤ length (now b) ⌝ }
-    ensures { λ r. ⌜ r ≡ signedOf (numberOf (take 4 (drop at (now (b .entry))))) ⌝ }
+    ensures { λ r. ⌜ r ≡ signedOf (numberAt (now (b .entry)) 4 at) ⌝ }
 {
     signed(four_at(b, at))
 }
 
-pub fn day_at(b: &[u8], at: usize) -> Day
+// A signed number of four bytes, in a cell of eight.
+pub fn cell_at(b: &[u8], at: usize) -> i64
     requires { ⌜ at + 4 ≤ length (now b) ⌝ }
-    ensures { λ r. ⌜ r ≡ day (signedOf (numberOf (take 4 (drop at (now (b .entry)))))) ⌝ }
+    ensures { λ r. ⌜ r ≡ signedOf (numberAt (now (b .entry)) 4 at) ⌝ }
 {
-    Day(id_at(b, at) as i64)
+    id_at(b, at) as i64
 }
 
-pub fn power_at(b: &[u8], at: usize) -> Power
-    requires { ⌜ at + 4 ≤ length (now b) ⌝ }
-    ensures { λ r. ⌜ r ≡ power (signedOf (numberOf (take 4 (drop at (now (b .entry)))))) ⌝ }
+// Low, then high.
+pub fn days_at(b: &[u8], at: usize) -> Span
+    requires { ⌜ at + 8 ≤ length (now b) ⌝ }
+    ensures { λ r. ⌜ r ≡ daysFrom (numberAt (now (b .entry)) 4 at) (numberAt (now (b .entry)) 4 (at + 4)) ⌝ }
 {
-    Power(id_at(b, at) as i64)
+    Span {
+        low: Day(cell_at(b, at)),
+        high: Day(cell_at(b, at + 4)),
+    }
+}
+
+pub fn powers_at(b: &[u8], at: usize) -> PowerSpan
+    requires { ⌜ at + 8 ≤ length (now b) ⌝ }
+    ensures { λ r. ⌜ r ≡ powersFrom (numberAt (now (b .entry)) 4 at) (numberAt (now (b .entry)) 4 (at + 4)) ⌝ }
+{
+    PowerSpan {
+        low: Power(cell_at(b, at)),
+        high: Power(cell_at(b, at + 4)),
+    }
 }
 
 // The bits of a signed number that four bytes hold.
@@ -100,18 +105,14 @@ fn unsigned(x: i64) -> u32
     requires { ⌜ SFits w32 x ⌝ }
     ensures { λ r. ⌜ r ≡ unsignedOf x ⌝ }
 {
-    if x < 0 {
-        (x + 0x1_0000_0000) as u32
-    } else {
-        x as u32
-    }
+    if x < 0 { (x + WHOLE) as u32 } else { x as u32 }
 }
 
 pub fn put_one(b: &mut [u8], at: usize, n: u32)
     requires { ⌜ at + 1 ≤ length (now b) ⌝ }
     ensures { λ _. ⌜ now (b .exit) ≡ sets (now (b .entry)) at (bytesOf 1 n) ⌝ }
 {
-    b[at] = (n % 256) as u8;
+    b[at] = (n % BYTE) as u8;
 }
 
 pub fn put_two(b: &mut [u8], at: usize, n: u32)
@@ -119,7 +120,7 @@ pub fn put_two(b: &mut [u8], at: usize, n: u32)
     ensures { λ _. ⌜ now (b .exit) ≡ sets (now (b .entry)) at (bytesOf 2 n) ⌝ }
 {
     put_one(b, at, n);
-    put_one(b, at + 1, n / 256);
+    put_one(b, at + 1, n / BYTE);
 }
 
 fn put_four(b: &mut [u8], at: usize, n: u32)
@@ -127,7 +128,7 @@ fn put_four(b: &mut [u8], at: usize, n: u32)
     ensures { λ _. ⌜ now (b .exit) ≡ sets (now (b .entry)) at (bytesOf 4 n) ⌝ }
 {
     put_two(b, at, n);
-    put_two(b, at + 2, n / 65536);
+    put_two(b, at + 2, n / PAIR);
 }
 
 pub fn put_signed(b: &mut [u8], at: usize, x: i64)
@@ -135,4 +136,21 @@ pub fn put_signed(b: &mut [u8], at: usize, x: i64)
     ensures { λ _. ⌜ now (b .exit) ≡ sets (now (b .entry)) at (bytesOf 4 (unsignedOf x)) ⌝ }
 {
     put_four(b, at, unsigned(x));
+}
+
+// Low, then high.
+pub fn put_days(b: &mut [u8], at: usize, s: Span)
+    requires { ⌜ (at + 8 ≤ length (now b)) × Small (daysOf s) ⌝ }
+    ensures { λ _. ⌜ now (b .exit) ≡ rangeStored (now (b .entry)) at (daysOf s) ⌝ }
+{
+    put_signed(b, at, s.low.0);
+    put_signed(b, at + 4, s.high.0);
+}
+
+pub fn put_powers(b: &mut [u8], at: usize, s: PowerSpan)
+    requires { ⌜ (at + 8 ≤ length (now b)) × Small (powersOf s) ⌝ }
+    ensures { λ _. ⌜ now (b .exit) ≡ rangeStored (now (b .entry)) at (powersOf s) ⌝ }
+{
+    put_signed(b, at, s.low.0);
+    put_signed(b, at + 4, s.high.0);
 }

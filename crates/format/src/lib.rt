@@ -1,5 +1,6 @@
-// The plan file's format: its marks and fields, what reading and writing answer, and the laws of what is written and read.
+// The plan file's format: its marks, records and fields, what reading and writing answer, and the laws of what is written and read.
 pub mod fields;
+pub mod table;
 
 use plan::Refusal;
 use plan::Sense;
@@ -16,6 +17,12 @@ pub struct Header {
     pub sense: u8,
     pub resources: usize,
     pub tasks: usize,
+}
+
+// What reading a PL record answers: what it holds, or one refusal.
+pub enum HeaderAnswer {
+    Counts(Header),
+    Refused(Refusal),
 }
 
 // What the reader answers: the sense and the two counts, or one refusal.

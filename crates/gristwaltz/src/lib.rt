@@ -1,16 +1,16 @@
 // Gristwaltz for other languages: calls on a plan file in memory, each with one number as its answer. They keep no state. Only what is
 // exported stands here, so that an edit of it is proved again in seconds; the work is done in crate calls.
 ghost use mathlib.Core.Path.{_≡_};
-ghost use Rattle.engine.specs.declared.Call.the-variants.{Balance, Step, Settle};
+ghost use Rattle.plan.specs.declared.Call.the-variants.{Balance, Step, Settle};
 ghost use Rattle.calls.specs.Files.{fileResult, fileCall, checkFile};
-use engine::Call;
+use plan::Call;
 
 // Settles the plan of a file and writes the settled plan's file.
 #[no_mangle]
 pub extern "C" fn gristwaltz_settle(file: &[u8], out: &mut [u8]) -> u64
     ensures { λ r. ⌜ fileResult r (now (out .exit)) ≡ fileCall Settle (now (file .entry)) (now (out .entry)) ⌝ }
 {
-    calls::call_file(Call::Settle, file, out)
+    calls::apply_to_file(Call::Settle, file, out)
 }
 
 // One balance step.
@@ -18,7 +18,7 @@ pub extern "C" fn gristwaltz_settle(file: &[u8], out: &mut [u8]) -> u64
 pub extern "C" fn gristwaltz_balance(file: &[u8], out: &mut [u8]) -> u64
     ensures { λ r. ⌜ fileResult r (now (out .exit)) ≡ fileCall Balance (now (file .entry)) (now (out .entry)) ⌝ }
 {
-    calls::call_file(Call::Balance, file, out)
+    calls::apply_to_file(Call::Balance, file, out)
 }
 
 // One resource step.
@@ -26,7 +26,7 @@ pub extern "C" fn gristwaltz_balance(file: &[u8], out: &mut [u8]) -> u64
 pub extern "C" fn gristwaltz_resource_step(file: &[u8], place: usize, out: &mut [u8]) -> u64
     ensures { λ r. ⌜ fileResult r (now (out .exit)) ≡ fileCall (Step place) (now (file .entry)) (now (out .entry)) ⌝ }
 {
-    calls::call_file(Call::Step(place), file, out)
+    calls::apply_to_file(Call::Step(place), file, out)
 }
 
 // Whether a file is a plan that passes the entry checks.

@@ -1,23 +1,21 @@
--- Laws of ranges: what the range left by a test is, for code (`left-is`, `left-none`) and for soundness (`left-in`),
--- that it lies inside the range that entered, how much room it has, and a test of every value.
-use mathlib.Core.Path.{_≡_, refl, sym, ap, ap₂, _∙_, subst}
-use mathlib.Core.List.{List, [], _∷_}
+-- Laws of ranges: within its ends, equal to another, how wide; what the range left by a test is, for code (`left-is`, `left-none`) and for
+-- soundness (`left-in`), that it lies inside the range that entered, and a test of every value.
+use mathlib.Core.Path.{_≡_, refl, ap₂, subst}
+use mathlib.Core.List.{_∷_}
 use mathlib.Core.Bool.{Bool, true, false}
-use Prim.Native.Nat.{ℕ, zero, suc, _+_, _≤_, _<_}
+use Prim.Native.Nat.{ℕ, zero, suc, _≤_}
 use native.Mathlib.Omega.{arith}
-use lib.IntN.{ℤ, pos, negsuc, sucℤ, predℤ, _+ℤ_, _-ℤ_}
+use lib.IntN.{ℤ, pos, negsuc, sucℤ, _+ℤ_, _-ℤ_, natAbs}
 use lib.Signed.{leZ, ltZ, _≤ℤ_, _<ℤ_}
+use Rattle.integers.specs.Whole.{eqZ}
 use Rattle.integers.specs.Tests.{if, and, all, filter}
-use Rattle.integers.specs.Hull.{Range, range, within, upFrom, countOf, values, last, Left, hull, left}
+use Rattle.integers.specs.Hull.{Range, range, within, sameRange, fits, width, upFrom, countOf, values, last, Left, hull, left}
 use Rattle.integers.specs.Hull.Left.{Nothing, Some}
-use Rattle.integers.proofs.Z.{z, up, dn, +z, -z, sucz, predz, leZ-in, ltZ-in}
+use Rattle.integers.specs.Ends.{Within, InEnds}
+use Rattle.integers.proofs.Z.{z, up, dn, +z, -z, sucz, leZ-in, eqZ-in, eqZ-is}
 use Rattle.integers.proofs.Tests.{clash, by-cases, if-case, and-first, and-second, and-in}
 
 -- ---- a value inside
-pub record Within (s : Range) (v : ℤ) : Type 0 where
-  pub least : s .low ≤ℤ v
-  pub most : v ≤ℤ s .high
-
 pub within-is : (s : Range) (v : ℤ) → within s v ≡ true → Within s v
 unfolding within
 within-is s v h =
@@ -28,6 +26,32 @@ within-is s v h =
 pub within-in : (s : Range) (v : ℤ) → Within s v → within s v ≡ true
 unfolding within
 within-in s v h = and-in (leZ (s .low) v) (leZ v (s .high)) (leZ-in (s .low) v (h .least)) (leZ-in v (s .high) (h .most))
+
+-- ---- two ranges
+pub same-range-self : (s : Range) → sameRange s s ≡ true
+unfolding sameRange
+same-range-self s = rw (eqZ-in (s .low) (s .low) refl, eqZ-in (s .high) (s .high) refl)
+
+pub same-range-is : (a b : Range) → sameRange a b ≡ true → a ≡ b
+unfolding sameRange
+same-range-is a b h =
+    ap₂ range (eqZ-is (a .low) (b .low) (and-first (eqZ (a .low) (b .low)) (eqZ (a .high) (b .high)) h))
+    (eqZ-is (a .high) (b .high) (and-second (eqZ (a .low) (b .low)) (eqZ (a .high) (b .high)) h))
+
+pub fits-is : (e s : Range) → fits e s ≡ true → InEnds e s
+unfolding fits
+fits-is e s h =
+    let x = leZ (e .low) (s .low) in
+    let y = leZ (s .low) (s .high) in
+    let w = leZ (s .high) (e .high) in
+    let p : x ≡ true = and-first x (and y w) h in
+    let q : y ≡ true = and-first y w (and-second x (and y w) h) in
+    let r : w ≡ true = and-second y w (and-second x (and y w) h) in
+    omega z
+
+pub fits-in : (e s : Range) → InEnds e s → fits e s ≡ true
+unfolding fits
+fits-in e s h = rw (leZ-in (e .low) (s .low) (h .least), leZ-in (s .low) (s .high) (h .rises), leZ-in (s .high) (e .high) (h .most))
 
 count-go : (s : Range) (v : ℤ) → Within s v → (d : ℤ) → s .high -ℤ s .low ≡ d → v <ℤ (s .low +ℤ pos (countOf d))
 unfolding countOf
@@ -239,28 +263,34 @@ left-full p s =
     let n = countOf (s .high -ℤ s .low) in
     full-of (s .low) (s .low +ℤ pos n) (hull (filter p (upFrom (s .low) n))) (hull-bounds p n (s .low) (s .low +ℤ pos n) (omega z))
 
--- ---- how much room a range has
-unfoldable pub width : Range → ℕ
-width s = up (s .high -ℤ s .low)
+-- ---- how far apart the ends of a range are
+pub abs-up : (d : ℤ) → pos 0 ≤ℤ d → (natAbs d ≡ up d) × (dn d ≡ 0)
+abs-up (pos n) h = (refl, refl)
+abs-up (negsuc n) h = absurd (omega z)
 
-one-zero : (a : ℤ) → pos 0 ≤ℤ a → dn a ≡ 0
-one-zero (pos n) h = refl
-one-zero (negsuc n) h = absurd (omega z)
+width-up : (s : Range) → s .low ≤ℤ s .high → (width s ≡ up (s .high -ℤ s .low)) × (dn (s .high -ℤ s .low) ≡ 0)
+unfolding width
+width-up s h = abs-up (s .high -ℤ s .low) (omega (z, -z (s .high) (s .low)))
 
 pub width-le : (s' s : Range) → Sub s' s → s' .low ≤ℤ s' .high → width s' ≤ width s
-unfolding width
 width-le s' s h f =
-    let a = one-zero (s' .high -ℤ s' .low) (omega (z, -z (s' .high) (s' .low))) in
+    let a = width-up s' f in
+    let b = width-up s (omega z) in
     omega (z, -z (s' .high) (s' .low), -z (s .high) (s .low))
 
 pub width-same : (s' s : Range) → Sub s' s → s' .low ≤ℤ s' .high → width s ≤ width s' → s' ≡ s
-unfolding width
 width-same s' s h f g =
-    let a = one-zero (s' .high -ℤ s' .low) (omega (z, -z (s' .high) (s' .low))) in
-    let b = one-zero (s .high -ℤ s .low) (omega (z, -z (s .high) (s .low))) in
+    let a = width-up s' f in
+    let b = width-up s (omega z) in
     let c : s' .low ≡ s .low = omega (z, -z (s' .high) (s' .low), -z (s .high) (s .low)) in
     let d : s' .high ≡ s .high = omega (z, -z (s' .high) (s' .low), -z (s .high) (s .low)) in
-    ap₂ (λ (x y : ℤ). record { low = x; high = y }) c d
+    ap₂ range c d
+
+-- a range within its ends is at most as wide as they are apart
+pub width-most : (e s : Range) (most : ℕ) → (e .high -ℤ e .low) ≤ℤ pos most → InEnds e s → width s ≤ most
+width-most e s most l h =
+    let a = width-up s (h .rises) in
+    omega (z, -z (s .high) (s .low), -z (e .high) (e .low))
 
 -- ---- a smaller range with a stricter test leaves less
 abbrev pub LeftBelow : Left → Left → Type 0

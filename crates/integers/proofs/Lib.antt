@@ -1,7 +1,7 @@
--- The laws: linear arithmetic, tests, sums, loops over lists, ranges; and examples of their use.
-pub mod Z
+-- The laws: linear arithmetic, tests, sums, loops over lists, ranges.
 pub mod Tests
+pub mod Z
+pub mod Lists
 pub mod Sums
 pub mod Loops
 pub mod Hull
-pub mod Examples

@@ -1,4 +1,4 @@
--- Loops over a list, from the front: mapped in place, and a list laid over another.
+-- Lists: mapped in place from the front, a list laid over another, and a list seen through a function.
 use mathlib.Core.Path.{_≡_, refl, ap}
 use mathlib.Core.List.{List, [], _∷_, _++_, map}
 use Prim.Native.Nat.{ℕ, zero, suc, _+_, _≤_, _<_}
@@ -84,8 +84,19 @@ module _ {A : Type 0} where
   over-drop (suc i) (x ∷ xs) [] h k = absurd (not-suc-le-zero k)
   over-drop (suc i) (x ∷ xs) (d ∷ ds) h k = ap (λ (l : List A). x ∷ l) (over-drop i xs ds (le-of-suc-le-suc h) (le-of-suc-le-suc k))
 
--- ---- an element of a mapped list
-pub map-at : {A B : Type 0} (f : A → B) (d : B) (e : A) (i : ℕ) (l : List A) → i < length l → getD (map f l) i d ≡ f (getD l i e)
-map-at f d e i [] h = absurd (not-suc-le-zero h)
-map-at f d e zero (x ∷ l) h = refl
-map-at f d e (suc i) (x ∷ l) h = map-at f d e i l (le-of-suc-le-suc h)
+-- ---- a view: f of each element
+module _ {A B : Type 0} (f : A → B) where
+  pub map-set : (s : List A) (i : ℕ) (x : A) → map f (set s i x) ≡ set (map f s) i (f x)
+  map-set [] i x = refl
+  map-set (y ∷ s) zero x = refl
+  map-set (y ∷ s) (suc i) x = ap (λ (l : List B). f y ∷ l) (map-set s i x)
+
+  pub map-take : (n : ℕ) (s : List A) → map f (take n s) ≡ take n (map f s)
+  map-take zero s = refl
+  map-take (suc n) [] = refl
+  map-take (suc n) (x ∷ s) = ap (λ (l : List B). f x ∷ l) (map-take n s)
+
+  pub map-drop : (n : ℕ) (s : List A) → map f (drop n s) ≡ drop n (map f s)
+  map-drop zero s = refl
+  map-drop (suc n) [] = refl
+  map-drop (suc n) (x ∷ s) = map-drop n s

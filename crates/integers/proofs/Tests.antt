@@ -1,7 +1,8 @@
 -- Laws of the tests: each test's cases, and what a test over a list says of its members.
-use mathlib.Core.Path.{_≡_, refl, sym, ap, _∙_, subst}
+use mathlib.Core.Path.{_≡_, refl, sym, ap, _∙_}
 use mathlib.Core.List.{List, [], _∷_, _++_, map}
 use mathlib.Core.Bool.{Bool, true, false, not, true≢false}
+use lib.Dec.{T}
 use Rattle.integers.specs.Tests.{if, and, or, implies, filter, all, any}
 
 -- ---- one test
@@ -15,6 +16,10 @@ by-cases false f g = g refl
 pub if-case {ℓ κ} : {A : Type ℓ} (P : A → Type κ) (b : Bool) (x y : A) → (b ≡ true → P x) → (b ≡ false → P y) → P (if b x y)
 if-case P true x y f g = f refl
 if-case P false x y f g = g refl
+
+pub true-of : (b : Bool) → T b → b ≡ true
+true-of true t = refl
+true-of false t = absurd t
 
 pub false-in : (b : Bool) → (b ≡ true → ⊥) → b ≡ false
 false-in true f = absurd (f refl)
@@ -45,6 +50,45 @@ and-second false b h = clash false h refl
 pub and-in : (a b : Bool) → a ≡ true → b ≡ true → and a b ≡ true
 and-in a b p q = rw (p, q)
 
+pub and-off : (a : Bool) → and a false ≡ false
+and-off true = refl
+and-off false = refl
+
+pub and-on : (a : Bool) → and a true ≡ a
+and-on true = refl
+and-on false = refl
+
+-- beside a test that holds, another may stand for one that is the same there
+pub and-same : (a b c : Bool) → (a ≡ true → b ≡ c) → and a b ≡ and a c
+and-same true b c f = f refl
+and-same false b c f = refl
+
+-- for code: the first test's result x decides, and where it holds the second's result is the answer
+pub and-yes : {x a b r : Bool} → x ≡ a → x ≡ true → r ≡ b → r ≡ and a b
+and-yes {x} {a} {b} e h k = rw (sym e ∙ h) k
+
+pub and-no : {x a : Bool} (b : Bool) → x ≡ a → x ≡ false → x ≡ and a b
+and-no {x} {a} b e h = rw (sym e ∙ h) h
+
+pub or-yes : {x a : Bool} (b : Bool) → x ≡ a → x ≡ true → x ≡ or a b
+or-yes {x} {a} b e h = rw (sym e ∙ h) h
+
+pub or-no : {x a b r : Bool} → x ≡ a → x ≡ false → r ≡ b → r ≡ or a b
+or-no {x} {a} {b} e h k = rw (sym e ∙ h) k
+
+-- four tests joined, as of a task's four ranges
+pub record Four (a b c d : Bool) : Type 0 where
+  pub first : a ≡ true
+  pub second : b ≡ true
+  pub third : c ≡ true
+  pub fourth : d ≡ true
+
+pub four-is : (a b c d : Bool) → and a (and b (and c d)) ≡ true → Four a b c d
+four-is a b c d h =
+    let k = and-second a (and b (and c d)) h in
+    let l = and-second b (and c d) k in
+    record { first = and-first a (and b (and c d)) h; second = and-first b (and c d) k; third = and-first c d l; fourth = and-second c d l }
+
 pub or-first : (a b : Bool) → a ≡ true → or a b ≡ true
 or-first a b h = rw h
 
@@ -55,6 +99,15 @@ or-second false b h = h
 -- where the first of two fails, the second is the answer
 pub or-left : (a b : Bool) → a ≡ false → or a b ≡ b
 or-left a b h = rw h
+
+-- where neither holds
+pub or-none : (a b : Bool) → or a b ≡ false → (a ≡ false) × (b ≡ false)
+or-none true b h = clash true refl h
+or-none false b h = (refl, h)
+
+pub or-assoc : (a b c : Bool) → or (or a b) c ≡ or a (or b c)
+or-assoc true b c = refl
+or-assoc false b c = refl
 
 pub implies-in : (a b : Bool) → (a ≡ true → b ≡ true) → implies a b ≡ true
 implies-in true b f = f refl
@@ -83,6 +136,17 @@ module _ {A : Type 0} (p : A → Bool) where
   all-in [] f = refl
   all-in (x ∷ xs) f = and-in (p x) (all p xs) (f x) (all-in xs f)
 
+  -- all pass where none fails
+  pub all-fails : (xs : List A) → all p xs ≡ not (any (λ x. not (p x)) xs)
+  unfolding all any
+  all-fails [] = refl
+  all-fails (x ∷ xs) = by-cases (p x) (λ e. rw e (all-fails xs)) (λ e. rw e)
+
+  pub all-append : (xs ys : List A) → all p (xs ++ ys) ≡ and (all p xs) (all p ys)
+  unfolding all
+  all-append [] ys = refl
+  all-append (x ∷ xs) ys = by-cases (p x) (λ e. rw e (all-append xs ys)) (λ e. rw e)
+
   pub any-out : (xs : List A) → any p xs ≡ true → (x : A) × (p x ≡ true)
   unfolding any
   any-out [] h = clash false h refl
@@ -99,10 +163,6 @@ module _ {A : Type 0} (p : A → Bool) where
   pub any-none : (xs : List A) → ((x : A) → p x ≡ true → ⊥) → any p xs ≡ false
   any-none xs f = false-in (any p xs) (λ h. let e = any-out xs h in f (e .0) (e .1))
 
--- a member of a list, told by what every test over the list says of it
-abbrev pub Member : {A : Type 0} → A → List A → Type 0
-Member {A} x xs = (q : A → Bool) → q x ≡ true → any q xs ≡ true
-
 module _ {A : Type 0} (p : A → Bool) where
   -- what all pass and one of them passes too
   pub all-any : (q : A → Bool) (xs : List A) → all p xs ≡ true → any q xs ≡ true → (x : A) × (p x ≡ true) × (q x ≡ true)
@@ -111,12 +171,6 @@ module _ {A : Type 0} (p : A → Bool) where
   all-any q (x ∷ xs) h g =
       by-cases (q x) (λ e. (x, and-first (p x) (all p xs) h, e))
       (λ e. all-any q xs (and-second (p x) (all p xs) h) (sym (or-left (q x) (any q xs) e) ∙ g))
-
-  pub all-members : (xs : List A) → ((x : A) → Member x xs → p x ≡ true) → all p xs ≡ true
-  unfolding all
-  all-members [] f = refl
-  all-members (x ∷ xs) f =
-      and-in (p x) (all p xs) (f x (λ q e. any-first q x xs e)) (all-members xs (λ y m. f y (λ q e. any-later q x xs (m q e))))
 
   pub not-any : (xs : List A) → any p xs ≡ false → all (λ x. not (p x)) xs ≡ true
   unfolding any all

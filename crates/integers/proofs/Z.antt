@@ -3,7 +3,7 @@
 -- negation (`~z`), larger (`maxz`) and smaller (`minz`) in it.
 use mathlib.Core.Path.{_≡_, refl, sym, ap, _∙_, subst}
 use mathlib.Core.Bool.{Bool, true, false, not, cond}
-use Prim.Native.Nat.{ℕ, zero, suc, _+_, _-_, _*_, _^_, _≤_, _<_, max, min}
+use Prim.Native.Nat.{ℕ, zero, suc, _+_, _-_, _^_, _≤_, _<_, max, min}
 use native.Mathlib.Omega.{arith}
 use lib.Dec.{T, ltb, leb, eqb, ltb→lt, nltb→le, leb→le, nleb→lt, lt→ltb, le→leb, eqb→eq, eqb-refl}
 use lib.IntN.{ℤ, pos, negsuc, negℤ, _+ℤ_, _-ℤ_, subℕ, sucℤ, predℤ}
@@ -12,6 +12,7 @@ use mir.Syntax.{Width}
 use mir.Val.{SFits, hbits, toZ, ofZ}
 use mir.ValLaws.{toZ-ofZ}
 use Rattle.integers.specs.Whole.{larger, smaller, eqZ}
+use Rattle.integers.proofs.Tests.{true-of, false-in}
 
 -- the part above 0, and the part below
 abbrev pub up : ℤ → ℕ
@@ -219,25 +220,17 @@ predz (pos (suc n)) = omega arith
 predz (negsuc n) = omega arith
 
 -- ---- tests from orders
-true-of : (b : Bool) → T b → b ≡ true
-true-of true t = refl
-true-of false t = absurd t
-
 pub leZ-in : (a b : ℤ) → a ≤ℤ b → leZ a b ≡ true
 leZ-in a b h = true-of (leZ a b) (h .le)
 
 pub ltZ-in : (a b : ℤ) → a <ℤ b → ltZ a b ≡ true
 ltZ-in a b h = true-of (ltZ a b) (h .lt)
 
-false-of : (b : Bool) → (b ≡ true → ⊥) → b ≡ false
-false-of true f = absurd (f refl)
-false-of false f = refl
-
 pub leZ-out : (a b : ℤ) → b <ℤ a → leZ a b ≡ false
-leZ-out a b h = false-of (leZ a b) (λ e. let l = leZ-true a b e in let m = lt-out b a h in omega arith)
+leZ-out a b h = false-in (leZ a b) (λ e. let l = leZ-true a b e in let m = lt-out b a h in omega arith)
 
 pub ltZ-out : (a b : ℤ) → b ≤ℤ a → ltZ a b ≡ false
-ltZ-out a b h = false-of (ltZ a b) (λ e. let l = ltZ-true a b e in let m = le-out b a h in omega arith)
+ltZ-out a b h = false-in (ltZ a b) (λ e. let l = ltZ-true a b e in let m = le-out b a h in omega arith)
 
 pub eqZ-in : (a b : ℤ) → a ≡ b → eqZ a b ≡ true
 eqZ-in a b e = subst (λ x. eqZ a x ≡ true) e (true-of (eqZ a a) (eq-t a))

@@ -2,8 +2,9 @@
 use mathlib.Core.List.{List, [], _∷_}
 use mathlib.Core.Bool.{Bool}
 use Prim.Native.Nat.{ℕ, zero, suc}
-use lib.IntN.{ℤ, pos, negsuc, sucℤ, _-ℤ_}
+use lib.IntN.{ℤ, pos, negsuc, sucℤ, _-ℤ_, natAbs}
 use lib.Signed.{leZ}
+use Rattle.integers.specs.Whole.{eqZ}
 use Rattle.integers.specs.Tests.{and, filter}
 
 -- lowest and highest value, both inside
@@ -16,6 +17,18 @@ range a b = record { low = a; high = b }
 
 unfoldable pub within : Range → ℤ → Bool
 within s v = and (leZ (s .low) v) (leZ v (s .high))
+
+-- the same two ends
+unfoldable pub sameRange : Range → Range → Bool
+sameRange a b = and (eqZ (a .low) (b .low)) (eqZ (a .high) (b .high))
+
+-- the range s lies within the ends e, and its low is not above its high
+unfoldable pub fits : Range → Range → Bool
+fits e s = and (leZ (e .low) (s .low)) (and (leZ (s .low) (s .high)) (leZ (s .high) (e .high)))
+
+-- how far apart its two ends are
+unfoldable pub width : Range → ℕ
+width s = natAbs (s .high -ℤ s .low)
 
 -- n values from a upwards
 unfoldable pub upFrom : ℤ → ℕ → List ℤ

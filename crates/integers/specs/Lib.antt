@@ -1,5 +1,7 @@
--- Integers, tests, sums and ranges: the words in which the pages above are written.
+-- Integers, tests, lists, sums and ranges: the words in which the pages above are written.
 pub mod Whole
 pub mod Tests
+pub mod Lists
 pub mod Sums
 pub mod Hull
+pub mod Ends

@@ -1,23 +1,10 @@
-// Whole numbers for code: sums, differences and orders of i64 that say what they give.
+// Whole numbers for code: orders, distances and negation of i64 that say what they give.
 ghost use mathlib.Core.Path.{_≡_};
-ghost use lib.IntN.{ℤ, pos, _+ℤ_, _-ℤ_, negℤ};
+ghost use lib.IntN.{negℤ, _-ℤ_, natAbs};
+ghost use lib.Signed.{_≤ℤ_};
 ghost use mir.Syntax.{w64};
 ghost use mir.Val.{SFits};
-ghost use Rattle.integers.specs.Whole.{larger, smaller};
-
-pub fn plus(a: i64, b: i64) -> i64
-    requires { ⌜ SFits w64 (a +ℤ b) ⌝ }
-    ensures { λ r. ⌜ r ≡ a +ℤ b ⌝ }
-{
-    a + b
-}
-
-pub fn minus(a: i64, b: i64) -> i64
-    requires { ⌜ SFits w64 (a -ℤ b) ⌝ }
-    ensures { λ r. ⌜ r ≡ a -ℤ b ⌝ }
-{
-    a - b
-}
+ghost use Rattle.integers.specs.Whole.{larger, smaller, eqZ};
 
 pub fn negated(a: i64) -> i64
     requires { ⌜ SFits w64 (negℤ a) ⌝ }
@@ -36,4 +23,18 @@ pub fn smaller_of(a: i64, b: i64) -> i64
     ensures { λ r. ⌜ r ≡ smaller a b ⌝ }
 {
     if b < a { b } else { a }
+}
+
+pub fn is_same(a: i64, b: i64) -> bool
+    ensures { λ r. ⌜ r ≡ eqZ a b ⌝ }
+{
+    a == b
+}
+
+// How far a lies above the least: a number that is not below 0.
+pub fn above(a: i64, least: i64) -> u64
+    requires { ⌜ SFits w64 (a -ℤ least) × (least ≤ℤ a) ⌝ }
+    ensures { λ r. ⌜ r ≡ natAbs (a -ℤ least) ⌝ }
+{
+    (a - least) as u64
 }

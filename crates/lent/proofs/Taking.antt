@@ -1,36 +1,40 @@
--- What is taken out of a file: an answer beside records among which its plan stands is what the reading call gives.
-use mathlib.Core.Path.{_≡_, refl, sym, ap, _∙_}
-use mathlib.Core.List.{List, _++_}
-use Prim.Native.Nat.{ℕ}
+-- What is taken out of a file: an answer beside arrays in whose first places its plan stands is what the reading call gives.
+use mathlib.Core.Path.{_≡_, refl, sym, _∙_}
+use mathlib.Core.List.{List}
+use Prim.Native.Nat.{ℕ, _≤_}
 use native.Mathlib.Omega.{arith}
-use lib.ListN.{length, take, drop}
-use Rattle.plan.specs.declared.Task.{Task}
+use lib.IntN.{ℤ}
+use lib.ListN.{length, take}
+use lib.Seq.{length-take-le}
+use Rattle.plan.specs.declared.Refusal.{Refusal}
 use Rattle.plan.specs.declared.Resource.{Resource}
+use Rattle.plan.specs.declared.Sense.{Sense}
+use Rattle.plan.specs.declared.Task.{Task}
+use Rattle.plan.specs.Tasks.{mostResources, mostTasks}
+use Rattle.rows.specs.View.{resourcesOf, tasksOf}
+use Rattle.rows.proofs.View.{length-resources, length-tasks}
 use Rattle.format.specs.declared.ReadAnswer.{ReadAnswer}
-use Rattle.format.specs.Reading.{readPlan, readAnswer, readCall, Stands}
-use Rattle.format.specs.Writing.{laid}
-use Rattle.format.proofs.Files.{told, refused, read-lays}
-use Rattle.lent.specs.Calls.{takenOf, Takes}
+use Rattle.format.specs.Reading.{Read, readLent, readCall, planIn}
+use Rattle.format.proofs.RoundTrip.{lent-is}
+use Rattle.lent.specs.Calls.{Takes}
+use Rattle.lent.proofs.Packed.{resources-packed, tasks-packed}
 
--- the first places stored, where they hold xs
-first-laid : {A : Type 0} (xs array ds : List A) (n : ℕ) → n ≡ length xs → take (length xs) array ≡ xs → take n array ++ drop n ds ≡ laid xs ds
-first-laid {A} xs array ds n e h = rw e (ap (λ (l : List A). l ++ drop (length xs) ds) h)
-
-module _ (places room : ℕ) (file : List ℕ) (later : List Resource) (after : List Task) (st : Stands (readPlan places room file) later after) where
-  pub takes : (x : ReadAnswer) → x ≡ readAnswer (readPlan places room file) → Takes places room file (takenOf x later after)
+module _ (places room : ℕ) (file : List ℕ) (rs : List Resource) (us : List Task) where
+  pub takes-none : (f : Refusal) → Read.Refuse f ≡ readLent places room file → Takes places room file (record { answer = ReadAnswer.Refused f; resources = rs; listed = 0; tasks = us; stored = 0 })
   unfolding readCall
-  takes (ReadAnswer.Refused f) e qs ts a b = (omega arith, omega arith, omega arith, omega arith, rw (a, b, refused places room file (sym e)) refl)
-  takes (ReadAnswer.Plan sense n m) e qs ts a b =
-      let t = told places room file (sym e) in
-      let s = st .stands (t .is) in (
-        t .few-resources .0,
-        omega (arith, t .few-resources .1),
-        t .few-tasks .0,
-        omega (arith, t .few-tasks .1),
-        rw (a, b) (read-lays t qs ts (first-laid (t .resources) later qs n (t .counted .0) (s .0)) (first-laid (t .tasks) after ts m (t .counted .1) (s .1))),
-      )
+  takes-none f e qs ts a b = (omega arith, omega arith, omega arith, omega arith, rw (a, b, sym e) refl)
 
--- of an answer and records that are these
-pub taken-same : {x y : ReadAnswer} {qs rs : List Resource} {ts us : List Task} → x ≡ y → rs ≡ qs → us ≡ ts → takenOf y rs us ≡ takenOf x qs ts
-taken-same {x} {y} {qs} {rs} {ts} {us} e f g =
-    ap (λ (a : ReadAnswer). takenOf a rs us) (sym e) ∙ ap (λ (l : List Resource). takenOf x l us) f ∙ ap (takenOf x qs) g
+  module _ (sense : Sense) (n m : ℕ) (q s : List (List ℤ)) where
+    pub takes-plan : planIn sense n m q s ≡ readLent places room file → (n ≤ length q) × (m ≤ length s) → length q ≡ mostResources → length s ≡ mostTasks → take (length q) rs ≡ resourcesOf q → take (length s) us ≡ tasksOf s
+        → Takes places room file (record { answer = ReadAnswer.Plan sense n m; resources = rs; listed = n; tasks = us; stored = m })
+    unfolding readCall
+    takes-plan e h x y f g qs ts a b =
+        let k = length-resources (take n q) ∙ length-take-le n q (h .0) in
+        let l = length-tasks (take m s) ∙ length-take-le m s (h .1) in
+        let w = lent-is places room file (sym e) in (
+          omega arith,
+          omega (arith, w .1),
+          omega arith,
+          omega (arith, w .2),
+          rw (a, b, sym e, k, l, resources-packed n (length q) (h .0) q rs (sym f), tasks-packed m (length s) (h .1) s us (sym g)) refl,
+        )

@@ -1,4 +1,4 @@
--- What the cores of the two calls promise: of any lists that what was loaded comes from, and of any lists of so many places.
+-- What the cores of the two calls promise: of any lists that what was loaded holds, and of any lists of so many places.
 use mathlib.Core.Path.{_≡_}
 use mathlib.Core.List.{List, _++_}
 use Prim.Native.Nat.{ℕ, _≤_}
@@ -6,27 +6,23 @@ use lib.ListN.{length, take, drop}
 use Rattle.plan.specs.declared.Task.{Task}
 use Rattle.plan.specs.declared.Resource.{Resource}
 use Rattle.plan.specs.declared.Sense.{Sense}
-use Rattle.rules.specs.Calls.{mostResources, mostTasks}
-use Rattle.format.specs.declared.ReadAnswer.{ReadAnswer}
+use Rattle.plan.specs.Tasks.{mostResources, mostTasks}
+use Rattle.rules.specs.Frame.{plain}
+use Rattle.entry.specs.Checks.{Held}
 use Rattle.format.specs.declared.WriteAnswer.{WriteAnswer}
 use Rattle.format.specs.Reading.{ReadResult, readResult, readCall}
 use Rattle.format.specs.Writing.{writeResult, writeCall}
 use Rattle.copies.specs.declared.Resources.{Resources}
 use Rattle.copies.specs.declared.Tasks.{Tasks}
-use Rattle.copies.specs.Loaded.{loadedTasks, loadedResources}
 use Rattle.lent.specs.declared.Taken.{Taken}
 
 -- ---- writing: the answer, and what the buffer holds later
 abbrev pub Writes : Sense → Resources → Tasks → List ℕ → WriteAnswer → List ℕ → Type 0
 Writes sense q p out r later =
-    (qs : List Resource) (ts : List Task) → q ≡ loadedResources qs → p ≡ loadedTasks ts → writeResult r later ≡ writeCall sense qs ts out
+    (qs : List Resource) (ts : List Task) → Held (plain sense qs) ts (q .count) (p .count) (take (q .count) (q .list)) (take (p .count) (p .list))
+    → writeResult r later ≡ writeCall (plain sense qs) ts out
 
 -- ---- reading
--- an answer with the rows' records: how many are to be stored
-abbrev pub takenOf : ReadAnswer → List Resource → List Task → Taken
-takenOf (ReadAnswer.Plan sense n m) rs us = record { answer = ReadAnswer.Plan sense n m; resources = rs; listed = n; tasks = us; stored = m }
-takenOf (ReadAnswer.Refused f) rs us = record { answer = ReadAnswer.Refused f; resources = rs; listed = 0; tasks = us; stored = 0 }
-
 -- the answer, and the lists once the first places of each array are stored
 abbrev pub kept : Taken → List Resource → List Task → ReadResult
 kept r qs ts =

@@ -1,31 +1,35 @@
 // A plan file read into lent lists of records, and lent lists written into a lent buffer.
 ghost use mathlib.Core.Path.{_≡_};
 ghost use Prim.Native.Nat.{_≤_};
-ghost use lib.ListN.{length, take};
-ghost use Rattle.rules.specs.Calls.{mostResources, mostTasks};
-ghost use Rattle.rows.specs.View.{tasksOf, resourcesOf};
+ghost use lib.ListN.{take};
+ghost use Rattle.plan.specs.Tasks.{mostResources, mostTasks};
+ghost use Rattle.rules.specs.Frame.{plain};
 ghost use Rattle.format.specs.Reading.{readResult, readCall};
 ghost use Rattle.format.specs.Writing.{writeResult, writeCall};
-ghost use Rattle.lent.specs.Calls.{Writes, Takes, takenOf};
+ghost use Rattle.lent.specs.Calls.{Writes, Takes};
 use copies::Resources;
 use copies::Tasks;
 use format::ReadAnswer;
 use format::WriteAnswer;
+use plan::MOST_RESOURCES;
+use plan::MOST_TASKS;
 use plan::Refusal;
 use plan::Resource;
 use plan::Sense;
 use plan::Task;
+use rows::RESOURCE_CELLS;
+use rows::TASK_CELLS;
 
 // ---- writing
 // Lists that the arrays hold whole: 1 to 6, then 10.
 fn write_few(sense: Sense, q: Resources, p: Tasks, out: &mut [u8]) -> WriteAnswer
     requires { ⌜ (q .count ≤ mostResources) × (p .count ≤ mostTasks) ⌝ }
-    ensures { λ r. ⌜ writeResult r (now (out .exit)) ≡ writeCall sense (take (q .count) (q .list)) (take (p .count) (p .list)) (now (out .entry)) ⌝ }
+    ensures { λ r. ⌜ writeResult r (now (out .exit)) ≡ writeCall (plain sense (take (q .count) (q .list))) (take (p .count) (p .list)) (now (out .entry)) ⌝ }
 {
-    let resource = [0i64; 2];
-    let task = [0i64; 9];
-    let mut resources = [resource; 16];
-    let mut tasks = [task; 256];
+    let resource = [0i64; RESOURCE_CELLS];
+    let task = [0i64; TASK_CELLS];
+    let mut resources = [resource; MOST_RESOURCES];
+    let mut tasks = [task; MOST_TASKS];
     let n = q.count;
     let m = p.count;
     let first = q.list;
@@ -41,18 +45,18 @@ fn write_loaded(sense: Sense, q: Resources, p: Tasks, out: &mut [u8]) -> WriteAn
 {
     let resources = q.count;
     let tasks = p.count;
-    if 256 < tasks {
+    if MOST_TASKS < tasks {
         return WriteAnswer::Refused(Refusal::TooManyTasks);
     }
-    if 16 < resources {
+    if MOST_RESOURCES < resources {
         return WriteAnswer::Refused(Refusal::ResourceCount);
     }
     write_few(sense, q, p, out)
 }
 
-// "The writer writes exactly the file's length."
+// "the writer writes exactly the file's length"
 pub fn write(sense: Sense, resources: &[Resource], tasks: &[Task], out: &mut [u8]) -> WriteAnswer
-    ensures { λ r. ⌜ writeResult r (now (out .exit)) ≡ writeCall sense (now (resources .entry)) (now (tasks .entry)) (now (out .entry)) ⌝ }
+    ensures { λ r. ⌜ writeResult r (now (out .exit)) ≡ writeCall (plain sense (now (resources .entry))) (now (tasks .entry)) (now (out .entry)) ⌝ }
 {
     let q = copies::load_resources(resources);
     let p = copies::load_tasks(tasks);
@@ -63,43 +67,24 @@ pub fn write(sense: Sense, resources: &[Resource], tasks: &[Task], out: &mut [u8
 // What is taken out of a file: the answer, and for each list an array and how many of its first places are to be stored.
 pub struct Taken {
     pub answer: ReadAnswer,
-    pub resources: [Resource; 16],
+    pub resources: [Resource; MOST_RESOURCES],
     pub listed: usize,
-    pub tasks: [Task; 256],
+    pub tasks: [Task; MOST_TASKS],
     pub stored: usize,
 }
 
-fn resources_in(q: &[[i64; 2]]) -> [Resource; 16]
-    requires { ⌜ length (now q) ≡ mostResources ⌝ }
-    ensures { λ r. ⌜ r ≡ resourcesOf (now (q .entry)) ⌝ }
+// The plan of a file, for lent lists of so many places. "On each refusal, task lists and buffers keep their entry contents": nothing is
+// to be stored.
+fn take_plan(file: &[u8], places: usize, room: usize) -> Taken
+    ensures { λ r. ⌜ Takes places room (now (file .entry)) r ⌝ }
 {
-    let none = rows::resource_at(q, 0);
-    let mut list = [none; 16];
-    let mut i: usize = 0;
-    while i < q.len() {
-        let resource = rows::resource_at(q, i);
-        list[i] = resource;
-        i += 1;
-    }
-    list
-}
-
-fn tasks_in(s: &[[i64; 9]]) -> [Task; 256]
-    requires { ⌜ length (now s) ≡ mostTasks ⌝ }
-    ensures { λ r. ⌜ r ≡ tasksOf (now (s .entry)) ⌝ }
-{
-    let none = rows::task_at(s, 0);
-    let list = [none; 256];
-    arrays::unpack_tasks(s, list)
-}
-
-// "On each refusal, task lists and buffers keep their entry contents": nothing is to be stored.
-fn out_of_rows(answer: ReadAnswer, q: &[[i64; 2]], s: &[[i64; 9]]) -> Taken
-    requires { ⌜ (length (now q) ≡ mostResources) × (length (now s) ≡ mostTasks) ⌝ }
-    ensures { λ r. ⌜ r ≡ takenOf answer (resourcesOf (now (q .entry))) (tasksOf (now (s .entry))) ⌝ }
-{
-    let resources = resources_in(q);
-    let tasks = tasks_in(s);
+    let resource = [0i64; RESOURCE_CELLS];
+    let task = [0i64; TASK_CELLS];
+    let mut q = [resource; MOST_RESOURCES];
+    let mut s = [task; MOST_TASKS];
+    let answer = file::read_lent(file, places, room, &mut q, &mut s);
+    let resources = arrays::unpack_resources(&q);
+    let tasks = arrays::unpack_tasks(&s);
     match answer {
         ReadAnswer::Refused(f) => Taken {
             answer: ReadAnswer::Refused(f),
@@ -116,18 +101,6 @@ fn out_of_rows(answer: ReadAnswer, q: &[[i64; 2]], s: &[[i64; 9]]) -> Taken
             stored: m,
         },
     }
-}
-
-// The plan of a file, for lent lists of so many places.
-fn take_plan(file: &[u8], places: usize, room: usize) -> Taken
-    ensures { λ r. ⌜ Takes places room (now (file .entry)) r ⌝ }
-{
-    let resource = [0i64; 2];
-    let task = [0i64; 9];
-    let mut q = [resource; 16];
-    let mut s = [task; 256];
-    let answer = file::reader::read_plan(file, places, room, &mut q, &mut s);
-    out_of_rows(answer, &q, &s)
 }
 
 // "On success the reader writes the first places only and later ones stay."

@@ -1,8 +1,8 @@
 -- What follows for one task from the page and from what a profile tells.
-pub mod Others
-pub mod Told
-pub mod Left
-pub mod Whole
-pub mod Page
-pub mod Fits
+pub mod ToldDays
+pub mod Ranges
+pub mod Heights
+pub mod Sets
+pub mod NarrowedTask
 pub mod Window
+pub mod Close

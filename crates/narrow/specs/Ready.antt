@@ -1,13 +1,14 @@
 -- One task against a finished profile: what is asked, and the task that is left, put together from its parts.
 use mathlib.Core.Path.{_≡_}
 use mathlib.Core.Bool.{Bool, true, false}
-use mathlib.Core.List.{List, _∷_}
+use mathlib.Core.List.{List}
 use Prim.Native.Nat.{ℕ, _<_, _^_}
 use lib.Dec.{eqb}
-use lib.IntN.{ℤ, pos, negℤ, _+ℤ_, _-ℤ_}
-use lib.Signed.{ltZ, _≤ℤ_}
-use Rattle.integers.specs.Tests.{if, any}
+use lib.IntN.{ℤ, pos, _+ℤ_, _-ℤ_}
+use lib.Signed.{ltZ, _≤ℤ_, _<ℤ_}
+use Rattle.integers.specs.Tests.{if, and, any}
 use Rattle.integers.specs.Whole.{larger}
+use Rattle.integers.specs.Lists.{In}
 use Rattle.integers.specs.Hull.{Left}
 use Rattle.integers.specs.Hull.Left.{Nothing, Some}
 use Rattle.plan.specs.declared.Task.{Task}
@@ -18,30 +19,34 @@ use Rattle.plan.specs.declared.Narrowed.the-variants.{Kept, RanOut}
 use Rattle.plan.specs.declared.Value.the-variants.{Origin, Duration, End, Set}
 use Rattle.plan.specs.Days.{daysOf, emptySpan, cutTo}
 use Rattle.plan.specs.Powers.{power}
-use Rattle.plan.specs.Sets.{only, without}
-use Rattle.rules.specs.Step.{shortfall, listedDays}
-use Rattle.rules.specs.Calls.{rangesFit}
+use Rattle.plan.specs.Sets.{setBits, only, without}
+use Rattle.plan.specs.Tasks.{Bounded}
+use Rattle.rules.specs.Step.{shortfall, listedDays, narrowed}
 use Rattle.stretches.specs.declared.Stretch.{Stretch}
 use Rattle.stretches.specs.Tells.{Tells}
+use Rattle.stretches.specs.Asks.{barOf}
 use Rattle.searches.specs.declared.Days.{Days}
 use Rattle.searches.specs.declared.Reach.{Reach}
-use Rattle.searches.specs.Searches.{neededPart, Told, Slack, Least}
+use Rattle.searches.specs.Searches.{neededPart, hitDays, Needed, Slack, Least}
 
--- a place of a set, and a task that has passed the entry checks
+-- a place of a set, and a task whose ranges lie within their ends
 pub record Ready (r : ℕ) (t : Task) : Type 0 where
-  pub place : r < 64
-  pub fits : rangesFit t ≡ true
-
--- t is one of the tasks
-pub data Among (t : Task) : List Task → Type 0 where
-  head : {ts : List Task} → Among t (t ∷ ts)
-  tail : {u : Task} {ts : List Task} → Among t ts → Among t (u ∷ ts)
+  pub place : r < setBits
+  pub fits : Bounded t
 
 -- what a caller knows of a profile and of the list that it was made from
 pub record Known (r : ℕ) (limit : ℤ → ℤ) (ts : List Task) (t : Task) (ss : List Stretch) : Type 0 where
   pub tells : Tells r limit ts t ss
-  pub among : Among t ts
+  pub among : In t ts
   pub enough : any (shortfall r limit ts) (listedDays ts) ≡ false
+
+-- THE PROMISE: for every limit and list of tasks that the stretches tell of, what the page leaves of the task
+abbrev pub ByPage : ℕ → Task → List Stretch → Narrowed → Type 0
+ByPage r t ss out = (limit : ℤ → ℤ) (ts : List Task) → Known r limit ts t ss → out ≡ narrowed r limit ts (listedDays ts) t
+
+-- the task has a possible day
+abbrev pub HasDay : Task → Type 0
+HasDay t = t .origin .low .0 <ℤ t .end .high .0
 
 -- ---- a task as its searches see it
 abbrev pub possibleDays : Task → Days
@@ -50,12 +55,8 @@ possibleDays t = record { from = t .origin .low; to = t .end .high }
 abbrev pub runningDays : Task → Days
 runningDays t = record { from = t .origin .high; to = t .end .low }
 
--- the slack below which a day is barred to a task that is not sure there
-abbrev pub under : Task → ℤ
-under t = larger (pos 0) (negℤ (t .height .high .0))
-
 abbrev pub reachOf : Task → Reach
-reachOf t = record { days = possibleDays t; sure = runningDays t; under = power (under t) }
+reachOf t = record { days = possibleDays t; sure = runningDays t; bar = power (barOf t) }
 
 -- "it gets r as its only resource, origin within i - duration high + 1 .. i, end within i + 1 .. i + duration high", for the first and
 -- the last day i of s; a task that is nowhere needed stays
@@ -71,14 +72,17 @@ withNeeds r s t =
     })
     t
 
--- a test of days is that of needs: told by the stretches where the highest height is positive, else true of no day
-pub record NeedsTold (t : Task) (ss : List Stretch) (q : ℤ → Bool) : Type 0 where
-  pub told : ltZ (pos 0) (t .height .high .0) ≡ true → Told (neededPart (possibleDays t) (t .height .high)) ss q
-  pub none : ltZ (pos 0) (t .height .high .0) ≡ false → (i : ℤ) → q i ≡ true → ⊥
+-- the days on which a task is needed: where its highest height is positive, the stretches tell them
+abbrev pub NeedsTold : Task → List Stretch → (ℤ → Bool) → Type 0
+NeedsTold t ss q = (i : ℤ) → q i ≡ and (ltZ (pos 0) (t .height .high .0)) (hitDays (neededPart (possibleDays t) (t .height .high)) ss i)
+
+-- s runs from the first of them to past the last
+abbrev pub NeedsFound : Task → List Stretch → Days → Type 0
+NeedsFound t ss s = (q : ℤ → Bool) → NeedsTold t ss q → Needed q (possibleDays t) s
 
 -- no possible day leaves the task less than it asks
-pub record Free (t : Task) (ss : List Stretch) : Type 0 where
-  pub enough : (y : ℤ) → Slack ss (possibleDays t) y → under t ≤ℤ y
+abbrev pub Free : Task → List Stretch → Type 0
+Free t ss = (y : ℤ) → Slack ss (possibleDays t) y → barOf t ≤ℤ y
 
 -- a height of one value stays; any other is lifted to the highest less the least slack on the running days, which is not below 0 where
 -- there is no shortfall

@@ -8,8 +8,8 @@ use lib.Signed.{_≤ℤ_}
 use Rattle.stretches.specs.declared.Stretch.{Stretch}
 use Rattle.stretches.specs.View.{noStretch}
 
-pub record Over (ss : List Stretch) (d : ℤ) (a : ℕ) : Type 0 where
-  pub ended : (k : ℕ) → k < a → k < length ss → (getD ss k noStretch) .to .0 ≤ℤ d
+abbrev pub Over : List Stretch → ℤ → ℕ → Type 0
+Over ss d a = (k : ℕ) → k < a → k < length ss → (getD ss k noStretch) .to .0 ≤ℤ d
 
-pub record Ahead (ss : List Stretch) (d : ℤ) (b : ℕ) : Type 0 where
-  pub begins : (k : ℕ) → b ≤ k → k < length ss → d ≤ℤ (getD ss k noStretch) .from .0
+abbrev pub Ahead : List Stretch → ℤ → ℕ → Type 0
+Ahead ss d b = (k : ℕ) → b ≤ k → k < length ss → d ≤ℤ (getD ss k noStretch) .from .0

@@ -1,4 +1,2 @@
--- What faces the steps, what is kept beside the list, and what settling's answer stands for.
-pub mod Facing
-pub mod Mask
-pub mod Answers
+-- What steps and calls on rows ask and promise.
+pub mod Ready

@@ -1,25 +1,21 @@
 -- Laws of sets of resources, over numbers of any width: what a set has, alone and without a place, and how many places it has.
 use mathlib.Core.Path.{_≡_, refl, sym, ap, _∙_, subst}
-use mathlib.Core.Bool.{Bool, true, false}
+use mathlib.Core.Bool.{true, false}
 use mathlib.Core.Logic.{_≢_}
-use Prim.Native.Nat.{ℕ, zero, suc, _+_, _-_, _*_, _/_, _%_, _^_, _≤_, _<_}
+use Prim.Native.Nat.{ℕ, zero, suc, _-_, _*_, _/_, _%_, _^_, _≤_, _<_, max}
 use native.Mathlib.Nat.{pow-succ', two-pow-succ, div-one, div-div-eq-div-mul, pow-le-pow-right}
 use native.Mathlib.Omega.{arith}
-use lib.Bits.{bitAnd, and-step}
+use lib.Bits.{bitAnd, bitOr, bitXor, and-step, differ, or-step, or-comm, xor-step}
 use lib.Dec.{T, eqb, eqb→eq, eqb-refl}
-use Rattle.integers.specs.Tests.{if}
-use Rattle.integers.proofs.Tests.{clash, by-cases, false-in, if-case}
-use Rattle.plan.specs.Sets.{has, only, single, without, size}
+use Rattle.integers.specs.Tests.{if, or}
+use Rattle.integers.proofs.Tests.{clash, by-cases, true-of, false-in, if-case, or-first, or-assoc}
+use Rattle.plan.specs.Sets.{has, only, atMostOne, without, size, union, differing}
 
 pub eqb-true : (a b : ℕ) → eqb a b ≡ true → a ≡ b
 eqb-true a b e = eqb→eq a b (subst T (sym e) tt)
 
 pub eqb-in : (a b : ℕ) → a ≡ b → eqb a b ≡ true
 eqb-in a b e = true-of (eqb a b) (subst (λ x. T (eqb a x)) e (eqb-refl a))
-  where
-    true-of : (b : Bool) → T b → b ≡ true
-    true-of true t = refl
-    true-of false t = absurd t
 
 pub only-is : (s k : ℕ) → only s k ≡ true → s ≡ 2 ^ k
 unfolding only
@@ -40,9 +36,9 @@ bit-below (suc r) =
     let c : 2 ^ suc r % 2 ≡ 0 = omega arith in
     and-step (2 ^ suc r) (2 ^ suc r - 1) ∙ rw (a, b, c, e) (omega arith)
 
-pub single-only : (s r : ℕ) → only s r ≡ true → single s ≡ true
-unfolding single
-single-only s r h = eqb-in (bitAnd s (s - 1)) 0 (subst (λ (x : ℕ). bitAnd x (x - 1) ≡ 0) (sym (only-is s r h)) (bit-below r))
+pub at-most-one-only : (s r : ℕ) → only s r ≡ true → atMostOne s ≡ true
+unfolding atMostOne
+at-most-one-only s r h = eqb-in (bitAnd s (s - 1)) 0 (subst (λ (x : ℕ). bitAnd x (x - 1) ≡ 0) (sym (only-is s r h)) (bit-below r))
 
 -- the set of one of 64 places, as the code makes it
 pub bit-small : (k : ℕ) → k < 64 → 1 * 2 ^ k % 18446744073709551616 ≡ 2 ^ k
@@ -50,13 +46,13 @@ bit-small k h =
     let l : 2 ^ k ≤ 2 ^ 63 = pow-le-pow-right {n = 2} (omega arith) {i = k} {j = 63} (omega arith) in
     omega arith
 
-none : (k : ℕ) → has 0 k ≡ false
+pub has-none : (k : ℕ) → has 0 k ≡ false
 unfolding has
-none zero = refl
-none (suc k) = none k
+has-none zero = refl
+has-none (suc k) = has-none k
 
 pub has-not-zero : (s k : ℕ) → has s k ≡ true → eqb s 0 ≡ false
-has-not-zero s k h = by-cases (eqb s 0) (λ e. clash (has s k) h (subst (λ x. has x k ≡ false) (sym (eqb-true s 0 e)) (none k))) (λ e. e)
+has-not-zero s k h = by-cases (eqb s 0) (λ e. clash (has s k) h (subst (λ x. has x k ≡ false) (sym (eqb-true s 0 e)) (has-none k))) (λ e. e)
 
 half-pow : (r : ℕ) → 2 ^ suc r / 2 ≡ 2 ^ r
 half-pow r = omega (arith, two-pow-succ r)
@@ -67,11 +63,14 @@ unfolding has
 has-alone zero = refl
 has-alone (suc r) = rw (half-pow r) (has-alone r)
 
+pub only-has : (s r : ℕ) → only s r ≡ true → has s r ≡ true
+only-has s r h = rw (only-is s r h) (has-alone r)
+
 -- and nothing else
 pub alone-only : (r k : ℕ) → has (2 ^ r) k ≡ true → k ≡ r
 unfolding has
 alone-only zero zero h = refl
-alone-only zero (suc k) h = clash (has 0 k) h (none k)
+alone-only zero (suc k) h = clash (has 0 k) h (has-none k)
 alone-only (suc r) zero h =
     let e : 2 ^ suc r % 2 ≡ 1 = eqb-true (2 ^ suc r % 2) 1 h in
     let l = two-pow-succ r in
@@ -192,7 +191,7 @@ size-same (suc m) s' s h l g =
 
 pub size-some : (m s k : ℕ) → s < 2 ^ m → has s k ≡ true → 1 ≤ size m s
 unfolding size has
-size-some zero s k l h = let a : s ≡ 0 = omega arith in clash (has 0 k) (rw a at h) (none k)
+size-some zero s k l h = let a : s ≡ 0 = omega arith in clash (has 0 k) (rw a at h) (has-none k)
 size-some (suc m) s zero l h = let a = eqb-true (s % 2) 1 h in omega arith
 size-some (suc m) s (suc k) l h = let a = size-some m (s / 2) k (omega (arith, two-pow-succ m)) h in omega arith
 
@@ -236,3 +235,69 @@ pub without-keeps : (s r k : ℕ) → has s k ≡ true → k ≢ r → has (with
 unfolding without
 without-keeps s r k h n =
     if-case (λ u. has u k ≡ true) (has s r) (s - 2 ^ r) s (λ e. has-less s r k e h n) (λ e. h)
+
+-- ---- the union of two sets
+bit-or : (x y : ℕ) → x < 2 → y < 2 → eqb (max x y) 1 ≡ or (eqb x 1) (eqb y 1)
+bit-or zero zero h k = refl
+bit-or zero (suc zero) h k = refl
+bit-or (suc zero) zero h k = refl
+bit-or (suc zero) (suc zero) h k = refl
+bit-or zero (suc (suc y)) h k = absurd (omega arith)
+bit-or (suc zero) (suc (suc y)) h k = absurd (omega arith)
+bit-or (suc (suc x)) y h k = absurd (omega arith)
+
+pub union-has : (a b k : ℕ) → has (union a b) k ≡ or (has a k) (has b k)
+unfolding union has
+union-has a b zero =
+    let l : bitOr a b % 2 ≡ max (a % 2) (b % 2) = omega (arith, or-step a b) in
+    rw l (bit-or (a % 2) (b % 2) (omega arith) (omega arith))
+union-has a b (suc k) =
+    let l : bitOr a b / 2 ≡ bitOr (a / 2) (b / 2) = omega (arith, or-step a b) in
+    rw l (union-has (a / 2) (b / 2) k)
+
+-- sets of the same places are the same
+pub same-set : (a b : ℕ) → ((k : ℕ) → has a k ≡ has b k) → a ≡ b
+same-set a b h =
+    let l = sub-le a b (λ k e. sym (h k) ∙ e) in
+    let m = sub-le b a (λ k e. h k ∙ e) in
+    omega arith
+
+pub union-assoc : (a b c : ℕ) → union (union a b) c ≡ union a (union b c)
+union-assoc a b c =
+    same-set (union (union a b) c) (union a (union b c))
+    (λ k. rw (union-has (union a b) c k, union-has a b k, union-has a (union b c) k, union-has b c k) (or-assoc (has a k) (has b k) (has c k)))
+
+pub union-swap : (a b : ℕ) → union a b ≡ union b a
+unfolding union
+union-swap = or-comm
+
+pub union-le : (a b : ℕ) → a ≤ union a b
+union-le a b = sub-le a (union a b) (λ k h. union-has a b k ∙ or-first (has a k) (has b k) h)
+
+-- ---- where two sets differ
+differ-bit : (x y : ℕ) → x < 2 → y < 2 → differ x y < 2
+differ-bit zero y h k = k
+differ-bit (suc zero) zero h k = h
+differ-bit (suc zero) (suc y) h k = omega arith
+differ-bit (suc (suc x)) y h k = absurd (omega arith)
+
+same-bit : (x y : ℕ) → x < 2 → y < 2 → eqb (differ x y) 1 ≡ false → eqb x 1 ≡ eqb y 1
+same-bit zero zero h k e = refl
+same-bit zero (suc zero) h k e = clash true refl e
+same-bit (suc zero) zero h k e = clash true refl e
+same-bit (suc zero) (suc zero) h k e = refl
+same-bit zero (suc (suc y)) h k e = absurd (omega arith)
+same-bit (suc zero) (suc (suc y)) h k e = absurd (omega arith)
+same-bit (suc (suc x)) y h k e = absurd (omega arith)
+
+-- a place where they do not is in both or in neither
+pub differing-has : (a b k : ℕ) → has (differing a b) k ≡ false → has a k ≡ has b k
+unfolding differing has
+differing-has a b zero e =
+    let s = differ-bit (a % 2) (b % 2) (omega arith) (omega arith) in
+    let l : bitXor a b % 2 ≡ differ (a % 2) (b % 2) = omega (arith, xor-step a b) in
+    same-bit (a % 2) (b % 2) (omega arith) (omega arith) (rw l at e)
+differing-has a b (suc k) e =
+    let s = differ-bit (a % 2) (b % 2) (omega arith) (omega arith) in
+    let l : bitXor a b / 2 ≡ bitXor (a / 2) (b / 2) = omega (arith, xor-step a b) in
+    differing-has (a / 2) (b / 2) k (rw l at e)

@@ -1,8 +1,7 @@
 -- Days and ranges of days: "origin, end (day number) -100,000 .. 100,000; duration 0 .. 10,000".
-use mathlib.Core.Bool.{Bool, cond}
-use lib.IntN.{ℤ, pos, negsuc, _+ℤ_, _-ℤ_}
-use lib.Signed.{ltZ, leZ}
-use Rattle.integers.specs.Tests.{and}
+use mathlib.Core.Bool.{Bool}
+use lib.IntN.{ℤ, pos, negsuc}
+use lib.Signed.{ltZ}
 use Rattle.integers.specs.Whole.{larger, smaller}
 use Rattle.integers.specs.Hull.{Range, range}
 use Rattle.plan.specs.declared.Day.{Day}
@@ -11,7 +10,7 @@ use Rattle.plan.specs.declared.Span.{Span}
 abbrev pub day : ℤ → Day
 day x = record { 0 = x }
 
--- the ends of days and of durations
+-- the ends of days and of durations: the constants of `Day` (`Day::ends`, `Day::lengths`)
 abbrev pub dayLow : ℤ
 dayLow = negsuc 99999
 
@@ -23,6 +22,12 @@ durationLow = pos 0
 
 abbrev pub durationHigh : ℤ
 durationHigh = pos 10000
+
+abbrev pub dayEnds : Range
+dayEnds = range dayLow dayHigh
+
+abbrev pub durationEnds : Range
+durationEnds = range durationLow durationHigh
 
 -- a range of days as a range of numbers, and back
 abbrev pub daysOf : Span → Range
@@ -44,7 +49,3 @@ cutTo a b s = cutAbove b (cutBelow a s)
 -- no value left: low above high
 abbrev pub emptySpan : Span → Bool
 emptySpan s = ltZ (s .high .0) (s .low .0)
-
--- the whole range lies within the ends a and b, and low is not above high
-unfoldable pub spanFits : ℤ → ℤ → Span → Bool
-spanFits a b s = and (leZ a (s .low .0)) (and (leZ (s .low .0) (s .high .0)) (leZ (s .high .0) b))

@@ -2,4 +2,5 @@
 pub mod Days
 pub mod Powers
 pub mod Sets
+pub mod Tasks
 pub mod Refusals

@@ -1,9 +1,13 @@
 -- A set of resources as a number: "bit k is resource k". What holds of sets is said over numbers, whatever their width.
 use mathlib.Core.Bool.{Bool}
 use Prim.Native.Nat.{ℕ, zero, suc, _+_, _-_, _/_, _%_, _^_}
-use lib.Bits.{bitAnd}
+use lib.Bits.{bitAnd, bitOr, bitXor}
 use lib.Dec.{eqb}
 use Rattle.integers.specs.Tests.{if}
+
+-- a task's set has so many bits: the constant `SET_BITS`
+abbrev pub setBits : ℕ
+setBits = 64
 
 -- resource k is in the set
 unfoldable pub has : ℕ → ℕ → Bool
@@ -15,8 +19,8 @@ unfoldable pub only : ℕ → ℕ → Bool
 only s k = eqb s (2 ^ k)
 
 -- a set of one resource, or of none: nothing is left without its lowest bit
-unfoldable pub single : ℕ → Bool
-single s = eqb (bitAnd s (s - 1)) 0
+unfoldable pub atMostOne : ℕ → Bool
+atMostOne s = eqb (bitAnd s (s - 1)) 0
 
 -- the set without resource k
 unfoldable pub without : ℕ → ℕ → ℕ
@@ -26,3 +30,11 @@ without s k = if (has s k) (s - 2 ^ k) s
 unfoldable pub size : ℕ → ℕ → ℕ
 size zero s = 0
 size (suc m) s = s % 2 + size m (s / 2)
+
+-- the places of either set (the law `union-has`)
+unfoldable pub union : ℕ → ℕ → ℕ
+union a b = bitOr a b
+
+-- the places of one of two sets but not of the other: where it has none, they agree (the law `differing-has`)
+unfoldable pub differing : ℕ → ℕ → ℕ
+differing a b = bitXor a b

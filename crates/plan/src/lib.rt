@@ -1,54 +1,56 @@
 // The nouns of a plan: days and powers, their ranges, tasks, resources, the sense, and every answer a call can give.
 // "A day number is never added to a power, so the two get separate kinds in the code."
 ghost use mathlib.Core.Path.{_≡_};
-ghost use mathlib.Core.Bool.{Bool};
-ghost use Prim.Native.Nat.{ℕ, _<_, _^_};
-ghost use lib.IntN.{ℤ, pos, negsuc, _+ℤ_, _-ℤ_, negℤ};
-ghost use lib.Signed.{ltZ, leZ};
-ghost use lib.Dec.{eqb};
+ghost use Prim.Native.Nat.{_<_};
+ghost use lib.IntN.{_+ℤ_, _-ℤ_, negℤ, natAbs};
+ghost use lib.Signed.{ltZ, leZ, _≤ℤ_};
 ghost use mir.Syntax.{w64};
 ghost use mir.Val.{SFits};
-ghost use Rattle.integers.specs.Whole.{larger, smaller};
-ghost use Rattle.plan.specs.Days.{day, dayLow, dayHigh, durationLow, durationHigh, cutBelow, cutAbove, cutTo, emptySpan, spanFits};
-ghost use Rattle.plan.specs.Powers.{power, powerLow, powerHigh, raised, emptyPowers, powersFit, powerFits, turned};
+ghost use Rattle.integers.specs.Whole.{larger, smaller, eqZ};
+ghost use Rattle.integers.specs.Hull.{within, sameRange, fits};
+ghost use Rattle.plan.specs.Days.{day, dayEnds, durationEnds, daysOf, spanOf, cutBelow, cutAbove, cutTo, emptySpan};
+ghost use Rattle.plan.specs.Powers.{power, powerEnds, powersOf, powerSpanOf, negatedPower, negatedPowers};
 ghost use Rattle.plan.specs.Refusals.{number, place};
-ghost use Rattle.plan.specs.Sets.{has, only, single, without};
+ghost use Rattle.plan.specs.Sets.{setBits, has, only, atMostOne, without};
+ghost use Rattle.plan.specs.Tasks.{mostTasks, mostResources};
+
+// "1 to 16 resources", "0 to 256 tasks".
+pub const MOST_RESOURCES: usize = 16;
+
+pub const MOST_TASKS: usize = 256;
 
 // A day number, or a number of days.
 pub struct Day(pub i64);
 
 // "origin, end (day number) from -100,000 to 100,000"; "duration from 0 to 10,000".
 impl Day {
-    pub const LOW: i64 = -100_000;
+    pub const LOW: Day = Day(-100_000);
 
-    pub const HIGH: i64 = 100_000;
+    pub const HIGH: Day = Day(100_000);
 
-    pub const SHORTEST: i64 = 0;
+    pub const SHORTEST: Day = Day(0);
 
-    pub const LONGEST: i64 = 10_000;
+    pub const LONGEST: Day = Day(10_000);
 
-    pub fn lowest() -> Day
-        ensures { λ r. ⌜ r ≡ day dayLow ⌝ }
+    // The ends that the definitions name are these constants.
+    pub fn ends() -> Span
+        ensures constants { λ r. do ⌜ (r .low .0 ≡ (← ⟦Day::LOW.0⟧ .entry)) × (r .high .0 ≡ (← ⟦Day::HIGH.0⟧ .entry)) ⌝ }
+        ensures named { λ r. ⌜ r ≡ spanOf dayEnds ⌝ }
     {
-        Day(Day::LOW)
+        Span {
+            low: Day::LOW,
+            high: Day::HIGH,
+        }
     }
 
-    pub fn highest() -> Day
-        ensures { λ r. ⌜ r ≡ day dayHigh ⌝ }
+    pub fn lengths() -> Span
+        ensures constants { λ r. do ⌜ (r .low .0 ≡ (← ⟦Day::SHORTEST.0⟧ .entry)) × (r .high .0 ≡ (← ⟦Day::LONGEST.0⟧ .entry)) ⌝ }
+        ensures named { λ r. ⌜ r ≡ spanOf durationEnds ⌝ }
     {
-        Day(Day::HIGH)
-    }
-
-    pub fn shortest() -> Day
-        ensures { λ r. ⌜ r ≡ day durationLow ⌝ }
-    {
-        Day(Day::SHORTEST)
-    }
-
-    pub fn longest() -> Day
-        ensures { λ r. ⌜ r ≡ day durationHigh ⌝ }
-    {
-        Day(Day::LONGEST)
+        Span {
+            low: Day::SHORTEST,
+            high: Day::LONGEST,
+        }
     }
 
     pub fn plus(self, o: Day) -> Day
@@ -83,10 +85,24 @@ impl Day {
         self.0 < o.0
     }
 
-    pub fn until(self, o: Day) -> bool
+    pub fn not_after(self, o: Day) -> bool
         ensures { λ r. ⌜ r ≡ leZ (self .0) (o .0) ⌝ }
     {
         self.0 <= o.0
+    }
+
+    pub fn is(self, o: Day) -> bool
+        ensures { λ r. ⌜ r ≡ eqZ (self .0) (o .0) ⌝ }
+    {
+        integers::is_same(self.0, o.0)
+    }
+
+    // How many days after the first: a day as a number that is not below 0.
+    pub fn since(self, first: Day) -> u64
+        requires { ⌜ SFits w64 (self .0 -ℤ first .0) × (first .0 ≤ℤ self .0) ⌝ }
+        ensures { λ r. ⌜ r ≡ natAbs (self .0 -ℤ first .0) ⌝ }
+    {
+        integers::above(self.0, first.0)
     }
 }
 
@@ -95,20 +111,19 @@ pub struct Power(pub i64);
 
 // "height, limit from -1,000,000 to 1,000,000"
 impl Power {
-    pub const LOW: i64 = -1_000_000;
+    pub const LOW: Power = Power(-1_000_000);
 
-    pub const HIGH: i64 = 1_000_000;
+    pub const HIGH: Power = Power(1_000_000);
 
-    pub fn lowest() -> Power
-        ensures { λ r. ⌜ r ≡ power powerLow ⌝ }
+    // The ends that the definitions name are these constants.
+    pub fn ends() -> PowerSpan
+        ensures constants { λ r. do ⌜ (r .low .0 ≡ (← ⟦Power::LOW.0⟧ .entry)) × (r .high .0 ≡ (← ⟦Power::HIGH.0⟧ .entry)) ⌝ }
+        ensures named { λ r. ⌜ r ≡ powerSpanOf powerEnds ⌝ }
     {
-        Power(Power::LOW)
-    }
-
-    pub fn highest() -> Power
-        ensures { λ r. ⌜ r ≡ power powerHigh ⌝ }
-    {
-        Power(Power::HIGH)
+        PowerSpan {
+            low: Power::LOW,
+            high: Power::HIGH,
+        }
     }
 
     pub fn plus(self, o: Power) -> Power
@@ -127,7 +142,7 @@ impl Power {
 
     pub fn negated(self) -> Power
         requires { ⌜ SFits w64 (negℤ (self .0)) ⌝ }
-        ensures { λ r. ⌜ r ≡ power (negℤ (self .0)) ⌝ }
+        ensures { λ r. ⌜ r ≡ negatedPower self ⌝ }
     {
         Power(integers::negated(self.0))
     }
@@ -138,27 +153,43 @@ impl Power {
         Power(integers::larger_of(self.0, o.0))
     }
 
+    pub fn smaller(self, o: Power) -> Power
+        ensures { λ r. ⌜ r ≡ power (smaller (self .0) (o .0)) ⌝ }
+    {
+        Power(integers::smaller_of(self.0, o.0))
+    }
+
     pub fn below(self, o: Power) -> bool
         ensures { λ r. ⌜ r ≡ ltZ (self .0) (o .0) ⌝ }
     {
         self.0 < o.0
     }
 
-    pub fn up_to(self, o: Power) -> bool
+    pub fn not_above(self, o: Power) -> bool
         ensures { λ r. ⌜ r ≡ leZ (self .0) (o .0) ⌝ }
     {
         self.0 <= o.0
     }
 
+    pub fn is(self, o: Power) -> bool
+        ensures { λ r. ⌜ r ≡ eqZ (self .0) (o .0) ⌝ }
+    {
+        integers::is_same(self.0, o.0)
+    }
+
     // "a limit outside its ends"
     pub fn fits(self) -> bool
-        ensures { λ r. ⌜ r ≡ powerFits self ⌝ }
+        ensures { λ r. ⌜ r ≡ within powerEnds (self .0) ⌝ }
     {
-        if Power::lowest().up_to(self) {
-            self.up_to(Power::highest())
-        } else {
-            false
-        }
+        Power::LOW.not_above(self) && self.not_above(Power::HIGH)
+    }
+
+    // How much above the least: a power as a number that is not below 0.
+    pub fn above(self, least: Power) -> u64
+        requires { ⌜ SFits w64 (self .0 -ℤ least .0) × (least .0 ≤ℤ self .0) ⌝ }
+        ensures { λ r. ⌜ r ≡ natAbs (self .0 -ℤ least .0) ⌝ }
+    {
+        integers::above(self.0, least.0)
     }
 }
 
@@ -206,20 +237,22 @@ impl Span {
     }
 
     // "a task's range is outside its ends, or low above high"
-    pub fn fits(self, least: Day, most: Day) -> bool
-        ensures { λ r. ⌜ r ≡ spanFits (least .0) (most .0) self ⌝ }
+    pub fn fits(self, ends: Span) -> bool
+        ensures { λ r. ⌜ r ≡ fits (daysOf ends) (daysOf self) ⌝ }
+    {
+        let least = ends.low;
+        let low = self.low;
+        let high = self.high;
+        least.not_after(low) && (low.not_after(high) && high.not_after(ends.high))
+    }
+
+    // "changes nothing": the same two ends.
+    pub fn is(self, o: Span) -> bool
+        ensures { λ r. ⌜ r ≡ sameRange (daysOf self) (daysOf o) ⌝ }
     {
         let low = self.low;
         let high = self.high;
-        if least.until(low) {
-            if low.until(high) {
-                high.until(most)
-            } else {
-                false
-            }
-        } else {
-            false
-        }
+        low.is(o.low) && high.is(o.high)
     }
 }
 
@@ -230,45 +263,27 @@ pub struct PowerSpan {
 }
 
 impl PowerSpan {
-    pub fn raised(self, p: Power) -> PowerSpan
-        ensures { λ r. ⌜ r ≡ raised (p .0) self ⌝ }
+    pub fn fits(self, ends: PowerSpan) -> bool
+        ensures { λ r. ⌜ r ≡ fits (powersOf ends) (powersOf self) ⌝ }
+    {
+        let least = ends.low;
+        let low = self.low;
+        let high = self.high;
+        least.not_above(low) && (low.not_above(high) && high.not_above(ends.high))
+    }
+
+    pub fn is(self, o: PowerSpan) -> bool
+        ensures { λ r. ⌜ r ≡ sameRange (powersOf self) (powersOf o) ⌝ }
     {
         let low = self.low;
         let high = self.high;
-        PowerSpan {
-            low: low.larger(p),
-            high: high,
-        }
+        low.is(o.low) && high.is(o.high)
     }
 
-    pub fn is_empty(self) -> bool
-        ensures { λ r. ⌜ r ≡ emptyPowers self ⌝ }
-    {
-        let low = self.low;
-        let high = self.high;
-        high.below(low)
-    }
-
-    pub fn fits(self) -> bool
-        ensures { λ r. ⌜ r ≡ powersFit self ⌝ }
-    {
-        let low = self.low;
-        let high = self.high;
-        if Power::lowest().up_to(low) {
-            if low.up_to(high) {
-                high.up_to(Power::highest())
-            } else {
-                false
-            }
-        } else {
-            false
-        }
-    }
-
-    // "every height negated and each height's two ends swapped", exact at both ends of the symmetric range
-    pub fn turned(self) -> PowerSpan
+    // "every height and limit negated and each height's two ends swapped": exact at both ends of the symmetric range
+    pub fn negated(self) -> PowerSpan
         requires { ⌜ SFits w64 (negℤ (self .low .0)) × SFits w64 (negℤ (self .high .0)) ⌝ }
-        ensures { λ r. ⌜ r ≡ turned self ⌝ }
+        ensures { λ r. ⌜ r ≡ negatedPowers self ⌝ }
     {
         let low = self.low;
         let high = self.high;
@@ -279,7 +294,8 @@ impl PowerSpan {
     }
 }
 
-// "Each has a non-empty set of resources it may be placed on, and a lowest and highest value for origin, duration, end and height."
+// "Each has a non-empty set of resources it may be placed on, and a lowest and highest value (inclusive, lowest not above highest) for origin,
+// duration, end and height."
 pub struct Task {
     pub set: u64,
     pub origin: Span,
@@ -298,6 +314,22 @@ pub struct Resource {
 pub enum Sense {
     AtMost,
     AtLeast,
+}
+
+// The most that a plan counts; the definitions name these constants.
+pub struct Counts {
+    pub resources: usize,
+    pub tasks: usize,
+}
+
+pub fn most_counts() -> Counts
+    ensures constants { λ r. do ⌜ (r .resources ≡ (← ⟦MOST_RESOURCES⟧ .entry)) × (r .tasks ≡ (← ⟦MOST_TASKS⟧ .entry)) ⌝ }
+    ensures named { λ r. ⌜ (r .resources ≡ mostResources) × (r .tasks ≡ mostTasks) ⌝ }
+{
+    Counts {
+        resources: MOST_RESOURCES,
+        tasks: MOST_TASKS,
+    }
 }
 
 // The values of a task, in the order in which they are taken when one has run out.
@@ -332,7 +364,7 @@ pub enum Refusal {
 }
 
 impl Refusal {
-    // the paper's number
+    // the page's number
     pub fn number(self) -> u64
         ensures { λ r. ⌜ r ≡ number self ⌝ }
     {
@@ -352,7 +384,7 @@ impl Refusal {
         }
     }
 
-    // the paper's place
+    // the page's place
     pub fn place(self) -> usize
         ensures { λ r. ⌜ r ≡ place self ⌝ }
     {
@@ -373,30 +405,47 @@ impl Refusal {
     }
 }
 
+// What a check answers: accepted, or the first refusal.
+pub enum Checked {
+    Accepted,
+    Refused(Refusal),
+}
+
+// What a caller can ask for.
+pub enum Call {
+    Check,
+    Balance,
+    Step(usize),
+    Pass,
+    Settle,
+}
+
 // What a call answers: done, after so many passes of settling (0 for every other call), or one refusal.
 pub enum Answer {
     Done(u64),
     Refused(Refusal),
 }
 
-// Sets of resources: bit k is resource k.
+// A set of resources is a number of so many bits: bit k is resource k.
+pub const SET_BITS: u64 = 64;
+
 pub fn has_resource(set: u64, k: u64) -> bool
-    requires { ⌜ k < 64 ⌝ }
+    requires { ⌜ k < setBits ⌝ }
     ensures { λ r. ⌜ r ≡ has set k ⌝ }
 {
     (set >> k) % 2 == 1
 }
 
 pub fn only_resource(set: u64, k: u64) -> bool
-    requires { ⌜ k < 64 ⌝ }
+    requires { ⌜ k < setBits ⌝ }
     ensures { λ r. ⌜ r ≡ only set k ⌝ }
 {
     set == 1 << k
 }
 
 // At most one bit: the lowest is the only one.
-pub fn single_resource(set: u64) -> bool
-    ensures { λ r. ⌜ r ≡ single set ⌝ }
+pub fn at_most_one(set: u64) -> bool
+    ensures { λ r. ⌜ r ≡ atMostOne set ⌝ }
 {
     if set == 0 {
         return true;
@@ -405,7 +454,7 @@ pub fn single_resource(set: u64) -> bool
 }
 
 pub fn without_resource(set: u64, k: u64) -> u64
-    requires { ⌜ k < 64 ⌝ }
+    requires { ⌜ k < setBits ⌝ }
     ensures { λ r. ⌜ r ≡ without set k ⌝ }
 {
     if has_resource(set, k) {

@@ -1,6 +1,5 @@
 -- Laws of the sweep, and of what the stretches tell.
 pub mod Loops
-pub mod OnDay
 pub mod Calm
 pub mod Spread
 pub mod Promise

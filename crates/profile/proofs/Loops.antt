@@ -4,73 +4,58 @@ use mathlib.Core.List.{List, [], _∷_, _++_}
 use Prim.Native.Nat.{ℕ, _+_, _*_, _≤_, _<_}
 use native.Mathlib.Numerals.{add-one}
 use native.Mathlib.Omega.{arith}
-use lib.IntN.{ℤ, pos, _+ℤ_}
+use lib.IntN.{ℤ, pos, _+ℤ_, natAbs}
 use lib.ListN.{length, take, drop, getD, drop-of-length-le}
 use lib.Seq.{drop-cons}
-use lib.Signed.{_≤ℤ_}
 use mir.Syntax.{w64}
 use mir.Val.{SFits}
+use Rattle.integers.specs.Ends.{Within}
 use Rattle.integers.proofs.Z.{z, +z}
 use Rattle.integers.proofs.Tests.{if-case}
 use Rattle.integers.proofs.Sums.{Near}
-use Rattle.plan.specs.Powers.{powerLow, powerHigh}
+use Rattle.plan.specs.Powers.{powerEnds, powerHigh}
+use Rattle.plan.specs.Tasks.{mostTasks}
 use Rattle.stretches.specs.declared.Stretch.{Stretch}
-use Rattle.events.specs.declared.Common.{Common}
-use Rattle.events.specs.Keys.{dayOf, powerOf, sureOf}
+use Rattle.events.specs.declared.Extremes.{Extremes}
+use Rattle.events.specs.Keys.{powerField, countField, dayOf, powerOf, sureOf}
 use Rattle.events.specs.Laid.{Laid}
 use Rattle.events.proofs.Keys.{power-near, sure-near}
 use Rattle.events.proofs.Laid.{laid-more}
 use Rattle.profile.specs.declared.Level.{Level}
+use Rattle.profile.specs.Lent.{mostEvents}
 use Rattle.profile.specs.Sweep.{changed, stretchIn, worth, worthy, swept}
 
-pub worthy-few : (c : Common) (t : Stretch) → length (worthy c t) ≤ 1
-worthy-few c t = if-case (λ l. length l ≤ 1) (worth c t) (t ∷ []) [] (λ _. omega arith) (λ _. omega arith)
+pub worthy-few : (e : Extremes) (t : Stretch) → length (worthy e t) ≤ 1
+worthy-few e t = if-case (λ l. length l ≤ 1) (worth e t) (t ∷ []) [] (λ _. omega arith) (λ _. omega arith)
 
-module _ (c : Common) (ks : List ℕ) (j : ℕ) where
+module _ (e : Extremes) (ks : List ℕ) (j : ℕ) where
   -- the stretch up to key j behind those before it
   pub swept-more : j < length ks → (k l : List Stretch) (n m : ℕ) (a : ℤ) (v : Level) →
-      Laid k l n m (worthy c (stretchIn a (dayOf (getD ks j 0)) v)) →
-      take m l ++ swept c (dayOf (getD ks j 0)) (changed v (getD ks j 0)) (drop (j + 1) ks) ≡ take n k ++ swept c a v (drop j ks)
+      Laid k l n m (worthy e (stretchIn a (dayOf (getD ks j 0)) v)) →
+      take m l ++ swept e (dayOf (getD ks j 0)) (changed v (getD ks j 0)) (drop (j + 1) ks) ≡ take n k ++ swept e a v (drop j ks)
   unfolding swept
   swept-more h k l n m a v p =
-      laid-more k l n m (worthy c (stretchIn a (dayOf (getD ks j 0)) v)) (swept c (dayOf (getD ks j 0)) (changed v (getD ks j 0)) (drop (j + 1) ks)) p
+      laid-more k l n m (worthy e (stretchIn a (dayOf (getD ks j 0)) v)) (swept e (dayOf (getD ks j 0)) (changed v (getD ks j 0)) (drop (j + 1) ks)) p
       ∙ rw (add-one, drop-cons ks j 0 h)
 
   pub swept-end : length ks ≤ j → (k l : List Stretch) (n m : ℕ) (a : ℤ) (v : Level) →
-      Laid k l n m (worthy c (stretchIn a (c .high .0) v)) →
-      take m l ≡ take n k ++ swept c a v (drop j ks)
+      Laid k l n m (worthy e (stretchIn a (e .high .0) v)) →
+      take m l ≡ take n k ++ swept e a v (drop j ks)
   unfolding swept
   swept-end h k l n m a v p = p .front ∙ rw (drop-of-length-le ks h)
 
 -- ---- the sums stay small
 pub record Small (j : ℕ) (v : Level) : Type 0 where
-  pub slack : Near (1000000 + j * 2097152) (v .slack .0)
-  pub sure : Near (j * 2) (v .sure .0)
+  pub slack : Near (natAbs powerHigh + j * powerField) (v .slack .0)
+  pub sure : Near (j * countField) (v .sure .0)
 
-pub small-start : (v : Level) → powerLow ≤ℤ v .slack .0 → v .slack .0 ≤ℤ powerHigh → v .sure .0 ≡ pos 0 → Small 0 v
-small-start v a b e =
-    record {
-      slack = record { over = omega z; under = omega z };
-      sure = record { over = omega z; under = omega z };
-    }
+pub small-start : (v : Level) → Within powerEnds (v .slack .0) → v .sure .0 ≡ pos 0 → Small 0 v
+small-start v w e = omega z
 
 module _ (j : ℕ) (v : Level) (k : ℕ) (s : Small j v) where
-  pub small-fits : j < 1024 → SFits w64 (v .slack .0 +ℤ powerOf k) × SFits w64 (v .sure .0 +ℤ sureOf k)
-  small-fits h =
-      let p = power-near k in
-      let q = sure-near k in
-      let a = s .slack in
-      let b = s .sure in
-      (omega (z, +z (v .slack .0) (powerOf k)), omega (z, +z (v .sure .0) (sureOf k)))
+  pub small-fits : j < mostEvents mostTasks → SFits w64 (v .slack .0 +ℤ powerOf k) × SFits w64 (v .sure .0 +ℤ sureOf k)
+  small-fits h = omega (z, power-near k, sure-near k, s .slack, s .sure, +z (v .slack .0) (powerOf k), +z (v .sure .0) (sureOf k))
 
   pub small-more : Small (j + 1) (changed v k)
   unfolding changed
-  small-more =
-      let p = power-near k in
-      let q = sure-near k in
-      let a = s .slack in
-      let b = s .sure in
-      record {
-        slack = record { over = omega (z, +z (v .slack .0) (powerOf k)); under = omega (z, +z (v .slack .0) (powerOf k)) };
-        sure = record { over = omega (z, +z (v .sure .0) (sureOf k)); under = omega (z, +z (v .sure .0) (sureOf k)) };
-      }
+  small-more = omega (z, power-near k, sure-near k, s .slack, s .sure, +z (v .slack .0) (powerOf k), +z (v .sure .0) (sureOf k))

@@ -12,9 +12,8 @@ use Rattle.plan.specs.Powers.{power}
 use Rattle.sorting.specs.Order.{Sorted}
 use Rattle.stretches.specs.declared.Stretch.{Stretch}
 use Rattle.stretches.specs.Tells.{big}
-use Rattle.events.specs.declared.Common.{Common}
-use Rattle.events.specs.Events.{count}
-use Rattle.events.specs.Keys.{dayOf, powerOf, sureOf}
+use Rattle.events.specs.declared.Extremes.{Extremes}
+use Rattle.events.specs.Keys.{count, dayOf, powerOf, sureOf}
 use Rattle.profile.specs.declared.Level.{Level}
 
 abbrev pub level : ℤ → ℤ → Level
@@ -32,20 +31,24 @@ unfoldable pub stretchIn : ℤ → ℤ → Level → Stretch
 stretchIn a b v = record { from = day a; to = day b; slack = v .slack; tight = power (tightIn v) }
 
 -- it has a day, and some rule may touch some task on it
-unfoldable pub worth : Common → Stretch → Bool
-worth c t = and (ltZ (t .from .0) (t .to .0)) (or (ltZ (t .slack .0) (c .bar .0)) (ltZ (t .tight .0) (c .lift .0)))
+unfoldable pub worth : Extremes → Stretch → Bool
+worth e t = and (ltZ (t .from .0) (t .to .0)) (or (ltZ (t .slack .0) (e .bar .0)) (ltZ (t .tight .0) (e .lift .0)))
 
-abbrev pub worthy : Common → Stretch → List Stretch
-worthy c t = if (worth c t) (t ∷ []) []
+abbrev pub worthy : Extremes → Stretch → List Stretch
+worthy e t = if (worth e t) (t ∷ []) []
 
 -- from a day on, with what has been added up by then
-unfoldable pub swept : Common → ℤ → Level → List ℕ → List Stretch
-swept c a v [] = worthy c (stretchIn a (c .high .0) v)
-swept c a v (k ∷ ks) = worthy c (stretchIn a (dayOf k) v) ++ swept c (dayOf k) (changed v k) ks
+unfoldable pub swept : Extremes → ℤ → Level → List ℕ → List Stretch
+swept e a v [] = worthy e (stretchIn a (e .high .0) v)
+swept e a v (k ∷ ks) = worthy e (stretchIn a (dayOf k) v) ++ swept e (dayOf k) (changed v k) ks
+
+-- from the first day on, with a start on which the keys are added up
+abbrev pub sweptFrom : Extremes → ℤ → List ℕ → List Stretch
+sweptFrom e start ks = swept e (e .low .0) (level start (pos 0)) ks
 
 -- the first n rows hold what the keys, once they are in rising order, make
-pub record Sweeps (c : Common) (start : ℤ) (ks : List ℕ) (ss : List Stretch) (n : ℕ) : Type 0 where
+pub record Sweeps (e : Extremes) (start : ℤ) (ks : List ℕ) (ss : List Stretch) (n : ℕ) : Type 0 where
   pub keys : List ℕ
   pub sorted : Sorted ks keys
   pub few : n ≤ length ss
-  pub are : take n ss ≡ swept c (c .low .0) (level start (pos 0)) keys
+  pub are : take n ss ≡ sweptFrom e start keys

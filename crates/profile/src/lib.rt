@@ -3,32 +3,44 @@
 // Cost: n log n for n tasks; no day is visited, and no task for a stretch.
 ghost use mathlib.Core.Path.{_≡_};
 ghost use Prim.Native.Nat.{_*_, _≤_, _<_};
-ghost use lib.IntN.{pos, _+ℤ_};
+ghost use lib.IntN.{_+ℤ_};
 ghost use lib.ListN.{length, take};
-ghost use lib.Signed.{_≤ℤ_, ltZ};
+ghost use lib.Signed.{ltZ};
 ghost use mir.Syntax.{w64};
 ghost use mir.Val.{SFits};
-ghost use Rattle.plan.specs.Powers.{power, powerLow, powerHigh};
+ghost use Rattle.integers.specs.Ends.{Within};
+ghost use Rattle.integers.specs.Lists.{Each};
+ghost use Rattle.plan.specs.Powers.{power, powerEnds};
+ghost use Rattle.plan.specs.Tasks.{mostTasks, Bounded};
 ghost use Rattle.rows.specs.View.{tasksOf};
 ghost use Rattle.stretches.specs.View.{stretchesOf};
 ghost use Rattle.events.specs.Keys.{powerOf, sureOf};
 ghost use Rattle.events.specs.Laid.{Laid};
-ghost use Rattle.events.specs.Events.{Fitting};
-ghost use Rattle.profile.specs.Promise.{Lent, FirstShort, Profile};
-ghost use Rattle.profile.specs.Sweep.{changed, tightIn, stretchIn, worth, worthy, swept, level, Sweeps};
-use events::Common;
+ghost use Rattle.profile.specs.Lent.{mostEvents, Lent, Asks};
+ghost use Rattle.profile.specs.Promise.{FirstShort, Profile};
+ghost use Rattle.profile.specs.Sweep.{changed, tightIn, stretchIn, worth, worthy, sweptFrom, Sweeps};
 use events::Count;
+use events::Extremes;
 use plan::Day;
 use plan::Power;
+use rows::TaskRow;
 use stretches::Stretch;
+use stretches::StretchRow;
+
+// What is lent for the largest plan: keys for every event, half as many for the sort, and a stretch up to each event and one behind the last.
+pub const MOST_KEYS: usize = events::EVENTS_A_TASK * plan::MOST_TASKS;
+
+pub const MOST_SPARE: usize = MOST_KEYS / 2;
+
+pub const MOST_STRETCHES: usize = MOST_KEYS + 1;
+
+// ---- sweep
 
 // What the events up to a day add up to.
 pub struct Level {
     pub slack: Power,
     pub sure: Count,
 }
-
-// ---- sweep
 
 fn changed(v: Level, k: u64) -> Level
     requires { ⌜ SFits w64 (v .slack .0 +ℤ powerOf k) × SFits w64 (v .sure .0 +ℤ sureOf k) ⌝ }
@@ -46,11 +58,7 @@ fn tight_in(v: Level) -> Power
     ensures { λ r. ⌜ r ≡ power (tightIn v) ⌝ }
 {
     let sure = v.sure;
-    if sure.some() {
-        v.slack
-    } else {
-        Power(1_000_000_000_000)
-    }
+    if sure.some() { v.slack } else { stretches::BIG }
 }
 
 fn stretch_in(from: Day, to: Day, v: Level) -> Stretch
@@ -68,29 +76,25 @@ fn stretch_in(from: Day, to: Day, v: Level) -> Stretch
 fn has_day(t: Stretch) -> bool
     ensures { λ r. ⌜ r ≡ ltZ (t .from .0) (t .to .0) ⌝ }
 {
-    t.from.0 < t.to.0
+    let from = t.from;
+    from.before(t.to)
 }
 
-fn is_worth(t: Stretch, c: Common) -> bool
-    ensures { λ r. ⌜ r ≡ worth c t ⌝ }
+// Whether some rule may touch some task on the stretch: that asks for more slack than it has, or for more where a task is sure.
+fn is_worth(t: Stretch, e: Extremes) -> bool
+    ensures { λ r. ⌜ r ≡ worth e t ⌝ }
 {
     let slack = t.slack;
     let tight = t.tight;
-    if has_day(t) {
-        if slack.below(c.bar) {
-            return true;
-        }
-        return tight.below(c.lift);
-    }
-    false
+    has_day(t) && (slack.below(e.bar) || tight.below(e.lift))
 }
 
 // the stretch, where it is worth it, behind the first n
-fn put_worthy(s: &mut [[i64; 4]], n: usize, t: Stretch, c: Common) -> usize
+fn put_worthy(s: &mut [StretchRow], n: usize, t: Stretch, e: Extremes) -> usize
     requires { ⌜ n < length (now s) ⌝ }
-    ensures { λ r. ⌜ Laid (stretchesOf (now (s .entry))) (stretchesOf (now (s .exit))) n r (worthy c t) ⌝ }
+    ensures { λ r. ⌜ Laid (stretchesOf (now (s .entry))) (stretchesOf (now (s .exit))) n r (worthy e t) ⌝ }
 {
-    if is_worth(t, c) {
+    if is_worth(t, e) {
         stretches::put_stretch(s, n, t);
         n + 1
     } else {
@@ -99,29 +103,30 @@ fn put_worthy(s: &mut [[i64; 4]], n: usize, t: Stretch, c: Common) -> usize
 }
 
 // the stretches that rising keys make, each with a start on which the sums have been added up
-fn sweep(keys: &[u64], start: Power, c: Common, s: &mut [[i64; 4]]) -> usize
-    requires { ⌜ (length (now keys) ≤ 1024) × (length (now keys) < length (now s)) × (powerLow ≤ℤ start .0) × (start .0 ≤ℤ powerHigh) ⌝ }
-    ensures { λ r. ⌜ Laid (stretchesOf (now (s .entry))) (stretchesOf (now (s .exit))) 0 r (swept c (c .low .0) (level (start .0) (pos 0)) (now (keys .entry))) ⌝ }
+fn sweep(keys: &[u64], start: Power, e: Extremes, s: &mut [StretchRow]) -> usize
+    requires { ⌜ (length (now keys) ≤ mostEvents mostTasks) × (length (now keys) < length (now s)) ⌝ }
+    requires { ⌜ Within powerEnds (start .0) ⌝ }
+    ensures { λ r. ⌜ Laid (stretchesOf (now (s .entry))) (stretchesOf (now (s .exit))) 0 r (sweptFrom e (start .0) (now (keys .entry))) ⌝ }
     ensures { λ r. ⌜ r ≤ length (now (s .exit)) ⌝ }
 {
     let mut v = Level {
         slack: start,
         sure: Count(0),
     };
-    let mut from = c.low;
+    let mut from = e.low;
     let mut n: usize = 0;
     let mut j: usize = 0;
     while j < keys.len() {
         let k = keys[j];
         let to = events::day_of(k);
         let t = stretch_in(from, to, v);
-        n = put_worthy(s, n, t, c);
+        n = put_worthy(s, n, t, e);
         from = to;
         v = changed(v, k);
         j += 1;
     }
-    let t = stretch_in(from, c.high, v);
-    put_worthy(s, n, t, c)
+    let t = stretch_in(from, e.high, v);
+    put_worthy(s, n, t, e)
 }
 
 // the stretches that the first n events make, in any order
@@ -130,21 +135,21 @@ fn sweep_events(
     n: usize,
     spare: &mut [u64],
     start: Power,
-    c: Common,
-    s: &mut [[i64; 4]],
+    e: Extremes,
+    s: &mut [StretchRow],
 ) -> usize
-    requires { ⌜ (n ≤ length (now keys)) × (n ≤ 1024) × (n ≤ 2 * length (now spare)) × (n < length (now s)) ⌝ }
-    requires { ⌜ (powerLow ≤ℤ start .0) × (start .0 ≤ℤ powerHigh) ⌝ }
-    ensures { λ r. ⌜ Sweeps c (start .0) (take n (now (keys .entry))) (stretchesOf (now (s .exit))) r ⌝ }
+    requires { ⌜ (n ≤ length (now keys)) × (n ≤ mostEvents mostTasks) × (n ≤ 2 * length (now spare)) × (n < length (now s)) ⌝ }
+    requires { ⌜ Within powerEnds (start .0) ⌝ }
+    ensures { λ r. ⌜ Sweeps e (start .0) (take n (now (keys .entry))) (stretchesOf (now (s .exit))) r ⌝ }
 {
     sorting::sort(&mut keys[..n], spare);
-    sweep(&keys[..n], start, c, s)
+    sweep(&keys[..n], start, e, s)
 }
 
 // ---- shortfall
 
 // the first of n stretches on which a task is sure and the hopes are below the limit, or n
-pub fn first_short(s: &[[i64; 4]], n: usize) -> usize
+pub fn first_short(s: &[StretchRow], n: usize) -> usize
     requires { ⌜ n ≤ length (now s) ⌝ }
     ensures { λ r. ⌜ FirstShort (take n (stretchesOf (now (s .entry)))) r ⌝ }
 {
@@ -152,6 +157,7 @@ pub fn first_short(s: &[[i64; 4]], n: usize) -> usize
     while k < n {
         let t = stretches::stretch_at(s, k);
         let tight = t.tight;
+        // Tight is the slack where a task is sure, and BIG elsewhere: below 0 it is a shortfall, and a day that was left out has none.
         if tight.below(Power(0)) {
             return k;
         }
@@ -170,22 +176,23 @@ pub struct Profiled {
 
 // The stretches of resource r, in ss. What is lent in keys and spare is worked in, and what it holds is of no account.
 pub fn profile(
-    s: &[[i64; 9]],
+    s: &[TaskRow],
     r: u64,
     limit: Power,
     keys: &mut [u64],
     spare: &mut [u64],
-    ss: &mut [[i64; 4]],
+    ss: &mut [StretchRow],
 ) -> Profiled
-    requires { ⌜ Lent (length (now s)) r (limit .0) (length (now keys)) (length (now spare)) (length (now ss)) ⌝ }
-    requires { ⌜ Fitting (tasksOf (now s)) ⌝ }
+    requires { ⌜ Asks r limit (length (now s)) ⌝ }
+    requires { ⌜ Lent (length (now s)) (length (now keys)) (length (now spare)) (length (now ss)) ⌝ }
+    requires { ⌜ Each Bounded (tasksOf (now s)) ⌝ }
     ensures { λ q. ⌜ q .stretches ≤ length (now (ss .exit)) ⌝ }
     ensures { λ q. ⌜ Profile r (λ _. limit .0) (tasksOf (now (s .entry))) (take (q .stretches) (stretchesOf (now (ss .exit)))) (q .short) ⌝ }
 {
     let q = events::collect(s, r, keys);
     let n = q.events;
-    let c = q.common;
-    let m = sweep_events(keys, n, spare, limit.negated(), c, ss);
+    let e = q.extremes;
+    let m = sweep_events(keys, n, spare, limit.negated(), e, ss);
     let k = first_short(ss, m);
     Profiled {
         stretches: m,

@@ -1,13 +1,15 @@
-// One input for each refusal of the entry checks, the paper's number and place of each on a line; where two faults meet, the one that
-// comes first in the paper's order.
-use entry::Entry;
+// One input for each refusal of the entry checks, the page's number and place of each on a line; where two faults meet, the one that
+// comes first in the page's order.
+use plan::Checked;
+use rows::ResourceRow;
+use rows::TaskRow;
 
-fn show(e: Entry) {
+fn show(e: Checked) {
     match e {
-        Entry::Accepted => {
+        Checked::Accepted => {
             io::write_all(1, b"accepted\n");
         }
-        Entry::Refused(f) => {
+        Checked::Refused(f) => {
             io::write_all(1, b"refused ");
             io::print_decimal(1, f.number());
             io::write_all(1, b" ");
@@ -17,13 +19,13 @@ fn show(e: Entry) {
     }
 }
 
-// Two tasks of the paper's case 9: set, then low and high of origin, duration, end and height.
-fn tasks() -> [[i64; 9]; 2] {
+// Two tasks of the page's case 9: set, then low and high of origin, duration, end and height.
+fn tasks() -> [TaskRow; 2] {
     [[1, 1, 2, 2, 2, 3, 4, 0, 1], [3, 0, 6, 2, 2, 2, 8, 0, 4]]
 }
 
 // Their resources: identifier and limit.
-fn resources() -> [[i64; 2]; 2] {
+fn resources() -> [ResourceRow; 2] {
     [[7, 4], [9, 3]]
 }
 
@@ -32,10 +34,10 @@ fn counts() {
     let q = resources();
     let s = tasks();
     show(entry::check(&q, &s));
-    show(entry::check_lists(257, 2, &q, &s));
-    show(entry::check_lists(257, 0, &q, &s));
+    show(entry::check_lists(plan::MOST_TASKS + 1, 2, &q, &s));
+    show(entry::check_lists(plan::MOST_TASKS + 1, 0, &q, &s));
     show(entry::check(&q[..0], &s));
-    let many: [[i64; 2]; 17] = [[7, 4]; 17];
+    let many: [ResourceRow; plan::MOST_RESOURCES + 1] = [[7, 4]; plan::MOST_RESOURCES + 1];
     show(entry::check(&many, &s));
 }
 
@@ -44,9 +46,9 @@ fn limits() {
     let s = tasks();
     let twice: [[i64; 2]; 3] = [[7, 4], [9, 3], [7, 5]];
     show(entry::check(&twice, &s));
-    let above: [[i64; 2]; 2] = [[7, 4], [9, 1_000_001]];
+    let above: [ResourceRow; 2] = [[7, 4], [9, 1_000_001]];
     show(entry::check(&above, &s));
-    let both: [[i64; 2]; 2] = [[7, -1_000_001], [7, 3]];
+    let both: [ResourceRow; 2] = [[7, -1_000_001], [7, 3]];
     show(entry::check(&both, &s));
 }
 
@@ -54,16 +56,16 @@ fn limits() {
 // task, 5 before 6.
 fn ranges() {
     let q = resources();
-    let outside: [[i64; 9]; 2] = [
+    let outside: [TaskRow; 2] = [
         [1, 1, 2, 2, 2, 3, 4, 0, 1],
         [3, 0, 6, 2, 10_001, 2, 8, 0, 4],
     ];
     show(entry::check(&q, &outside));
-    let crossed: [[i64; 9]; 2] = [[0, 2, 1, 2, 2, 3, 4, 0, 1], [3, 0, 6, 2, 2, 2, 8, 0, 4]];
+    let crossed: [TaskRow; 2] = [[0, 2, 1, 2, 2, 3, 4, 0, 1], [3, 0, 6, 2, 2, 2, 8, 0, 4]];
     show(entry::check(&q, &crossed));
-    let nowhere: [[i64; 9]; 2] = [[1, 1, 2, 2, 2, 3, 4, 0, 1], [0, 0, 6, 2, 2, 2, 8, 0, 4]];
+    let nowhere: [TaskRow; 2] = [[1, 1, 2, 2, 2, 3, 4, 0, 1], [0, 0, 6, 2, 2, 2, 8, 0, 4]];
     show(entry::check(&q, &nowhere));
-    let beyond: [[i64; 9]; 2] = [[4, 1, 2, 2, 2, 3, 4, 0, 1], [3, 6, 0, 2, 2, 2, 8, 0, 4]];
+    let beyond: [TaskRow; 2] = [[4, 1, 2, 2, 2, 3, 4, 0, 1], [3, 6, 0, 2, 2, 2, 8, 0, 4]];
     show(entry::check(&q, &beyond));
 }
 

@@ -1,24 +1,31 @@
--- A text put from the first place on, as the report's contract says it.
-use mathlib.Core.Path.{_≡_, sym, ap, _∙_}
+-- A text put from the first place on, as the report's contract says it; rows for the most take every plan that is read.
+use mathlib.Core.Path.{_≡_, refl, sym, ap, _∙_}
 use mathlib.Core.List.{List}
 use Prim.Native.Nat.{ℕ, _≤_}
 use native.Mathlib.Omega.{arith}
 use native.Mathlib.Nat.{zero-add}
 use lib.ListN.{length, take}
 use lib.Seq.{sets, length-sets, length-take-le}
+use borrow.Author.Tests.{le-ltb}
+use Rattle.plan.specs.Tasks.{mostResources, mostTasks}
+use Rattle.format.specs.declared.HeaderAnswer.{HeaderAnswer}
+use Rattle.format.specs.Reading.{readHeader, listsDue, planAfter, readPlan, lentAfter, readLent}
+use Rattle.format.proofs.Files.{header-few}
 use Rattle.text.specs.Text.{Put}
 
-pub record Told (out text later : List ℕ) (r : ℕ) : Type 0 where
-  pub stands : later ≡ sets out 0 text
-  pub count : r ≡ length text
-  pub within : (r ≤ length later) × (r ≡ length (take r later))
-
-pub told : (out text : List ℕ) {later written : List ℕ} {r most : ℕ} → Put out 0 written most later r → most ≤ length out → written ≡ text → Told out text later r
+pub told : (out text : List ℕ) {later written : List ℕ} {r most : ℕ} → Put out 0 written most later r → most ≤ length out → written ≡ text → (later ≡ sets out 0 text) × ((r ≡ length text) × ((r ≤ length later) × (r ≡ length (take r later))))
 told out text {later} {written} {r} p h e =
     let same : length later ≡ length out = ap length (p .stored) ∙ length-sets out 0 written in
     let few : r ≤ length later = omega (arith, p .ends, p .short) in
-    record {
-      stands = p .stored ∙ ap (sets out 0) e;
-      count = p .ends ∙ zero-add (length written) ∙ ap length e;
-      within = (few, sym (length-take-le r later few));
-    }
+    (p .stored ∙ ap (sets out 0) e, (p .ends ∙ zero-add (length written) ∙ ap length e, (few, sym (length-take-le r later few))))
+
+after-most : (file : List ℕ) (a : HeaderAnswer) → readHeader file ≡ a → lentAfter mostResources mostTasks file a ≡ planAfter file a
+unfolding listsDue
+after-most file (HeaderAnswer.Counts h) e =
+    let w = header-few file e in
+    rw (le-ltb mostResources (h .resources) (w .resources), le-ltb mostTasks (h .tasks) (w .tasks))
+after-most file (HeaderAnswer.Refused f) e = refl
+
+pub lent-most : (file : List ℕ) → readLent mostResources mostTasks file ≡ readPlan file
+unfolding readLent readPlan
+lent-most file = after-most file (readHeader file) refl

@@ -1,23 +1,13 @@
 -- Laws of the view: its length, what stands at a place, what a store changes, and its first part. Both views map a function over rows,
 -- so each law is one of `map`.
-use mathlib.Core.Path.{_≡_, refl, ap}
-use mathlib.Core.List.{List, [], _∷_, map}
-use Prim.Native.Nat.{ℕ, zero, suc}
+use mathlib.Core.Path.{_≡_}
+use mathlib.Core.List.{List, [], map}
+use Prim.Native.Nat.{ℕ}
 use lib.IntN.{ℤ}
 use lib.ListN.{length, take, getD, set, length-map, List·getD-map}
-use Rattle.rows.specs.View.{taskOf, noTask, tasksOf, resourceOf, noResource, resourcesOf}
-
--- ---- over any function
-module _ {A B : Type 0} (f : A → B) where
-  pub map-set : (s : List A) (i : ℕ) (x : A) → map f (set s i x) ≡ set (map f s) i (f x)
-  map-set [] i x = refl
-  map-set (y ∷ s) zero x = refl
-  map-set (y ∷ s) (suc i) x = ap (λ (l : List B). f y ∷ l) (map-set s i x)
-
-  pub map-take : (n : ℕ) (s : List A) → map f (take n s) ≡ take n (map f s)
-  map-take zero s = refl
-  map-take (suc n) [] = refl
-  map-take (suc n) (x ∷ s) = ap (λ (l : List B). f x ∷ l) (map-take n s)
+use Rattle.integers.proofs.Loops.{map-set, map-take}
+use Rattle.plan.specs.Tasks.{noTask, noResource}
+use Rattle.rows.specs.View.{taskOf, tasksOf, idOf, resourceOf, resourcesOf}
 
 -- ---- tasks
 pub length-tasks : (s : List (List ℤ)) → length (tasksOf s) ≡ length s
@@ -25,7 +15,7 @@ unfolding tasksOf
 length-tasks s = length-map s taskOf
 
 pub tasks-at : (s : List (List ℤ)) (i : ℕ) → getD (tasksOf s) i noTask ≡ taskOf (getD s i [])
-unfolding tasksOf noTask
+unfolding tasksOf taskOf noTask
 tasks-at s i = List·getD-map taskOf s i []
 
 pub tasks-set : (s : List (List ℤ)) (i : ℕ) (r : List ℤ) → tasksOf (set s i r) ≡ set (tasksOf s) i (taskOf r)
@@ -42,7 +32,7 @@ unfolding resourcesOf
 length-resources s = length-map s resourceOf
 
 pub resources-at : (s : List (List ℤ)) (i : ℕ) → getD (resourcesOf s) i noResource ≡ resourceOf (getD s i [])
-unfolding resourcesOf noResource
+unfolding resourcesOf resourceOf idOf noResource
 resources-at s i = List·getD-map resourceOf s i []
 
 pub resources-set : (s : List (List ℤ)) (i : ℕ) (r : List ℤ) → resourcesOf (set s i r) ≡ set (resourcesOf s) i (resourceOf r)

@@ -1,8 +1,7 @@
 -- A step that takes each task by itself, in place from the front, and notes the places that it touched: how far it has come.
 use mathlib.Core.Path.{_≡_, refl, sym, ap, _∙_}
-use mathlib.Core.List.{List, [], _∷_}
-use Prim.Native.Nat.{ℕ, zero, suc, _+_, _≤_, _<_}
-use native.Mathlib.Nat.{not-suc-le-zero, le-of-suc-le-suc}
+use mathlib.Core.List.{List, _∷_}
+use Prim.Native.Nat.{ℕ, _+_, _≤_, _<_}
 use native.Mathlib.Omega.{arith}
 use lib.ListN.{length, drop, getD, set, length-set}
 use lib.Seq.{drop-set-lt, getD-drop, drop-drop}
@@ -15,8 +14,9 @@ use Rattle.rules.specs.Balance.{Outcome, andThen, each}
 use Rattle.rules.specs.Balance.Outcome.{NoPlan, Plan}
 use Rattle.rules.specs.Settle.{sameTask}
 use Rattle.rules.proofs.Walk.{eachLeft, each-start, each-kept, each-same, each-out, each-end}
-use Rattle.rows.specs.View.{noTask}
-use Rattle.rows.specs.Changes.{union, seenBy, touchedBy}
+use Rattle.plan.specs.Sets.{union}
+use Rattle.plan.specs.Tasks.{noTask}
+use Rattle.rows.specs.Changes.{seenBy, touchedBy}
 use Rattle.rows.proofs.Changes.{touched-self, touched-put}
 
 no-plan : {X : Type 0} (us : List Task) → NoPlan ≡ Plan us → X
@@ -82,29 +82,7 @@ module _ (f : Task → Narrowed) (ts : List Task) where
   pub walk-end : (i : ℕ) (us : List Task) (touched : ℕ) → length us ≤ i → Walk i us touched → each f ts ≡ Plan us
   walk-end i us touched l w = sym (w .left) ∙ each-end f i us l
 
--- what each kept task has, every task of the plan has
-none-kept : {X : Type 0} (n : Narrowed) (o : Outcome) → andThen n o ≡ Plan [] → X
-none-kept (RanOut v) o h = no-plan [] h
-none-kept (Kept u) NoPlan h = no-plan [] h
-none-kept (Kept u) (Plan vs) h = let q : _≡_ {A = ℕ} 0 1 = cc in absurd (omega arith)
-
 pub first-kept : (n : Narrowed) (o : Outcome) (u : Task) (us : List Task) → andThen n o ≡ Plan (u ∷ us) → (n ≡ Kept u) × (o ≡ Plan us)
 first-kept (RanOut v) o u us h = no-plan (u ∷ us) h
 first-kept (Kept v) NoPlan u us h = no-plan (u ∷ us) h
 first-kept (Kept v) (Plan vs) u us h = (cc, cc)
-
-module _ (f : Task → Narrowed) (P : Task → Type 0) (keeps : (t u : Task) → P t → f t ≡ Kept u → P u) where
-  pub each-all : (ts us : List Task) → each f ts ≡ Plan us → ((k : ℕ) → k < length ts → P (getD ts k noTask)) → (k : ℕ) → k < length us → P (getD us k noTask)
-  unfolding each
-  each-all ts [] h g k l = absurd (not-suc-le-zero l)
-  each-all [] (u ∷ us) h g k l = let q : _≡_ {A = ℕ} 0 1 = cc in absurd (omega arith)
-  each-all (t ∷ ts) (u ∷ us) h g zero l = keeps t u (g 0 (omega arith)) (first-kept (f t) (each f ts) u us h .0)
-  each-all (t ∷ ts) (u ∷ us) h g (suc k) l =
-      each-all ts us (first-kept (f t) (each f ts) u us h .1) (λ j m. g (suc j) (omega arith)) k (le-of-suc-le-suc l)
-
-pub each-length : (f : Task → Narrowed) (ts us : List Task) → each f ts ≡ Plan us → length us ≡ length ts
-unfolding each
-each-length f [] [] h = refl
-each-length f [] (u ∷ us) h = let q : _≡_ {A = ℕ} 0 1 = cc in absurd (omega arith)
-each-length f (t ∷ ts) [] h = none-kept (f t) (each f ts) h
-each-length f (t ∷ ts) (u ∷ us) h = ap suc (each-length f ts us (first-kept (f t) (each f ts) u us h .1))

@@ -1,4 +1,3 @@
--- Rows of numbers as tasks and resources, what a step asks of the tasks, and what it says of those that it changed.
+-- Rows of numbers as tasks and resources, and what a step says of those that it changed.
 pub mod View
-pub mod Fits
 pub mod Changes

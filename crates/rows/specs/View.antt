@@ -1,21 +1,22 @@
--- The view: a row of nine numbers as a task, a row of two as a resource, and lists of rows as lists of these.
+-- The view: a row of nine numbers as a task, a row of two as a resource, lists of rows as lists of these, and rows of resources as a frame.
 use mathlib.Core.Bool.{cond}
-use mathlib.Core.List.{List, [], map}
-use Prim.Native.Nat.{ℕ}
+use mathlib.Core.List.{List, map}
+use Prim.Native.Nat.{ℕ, _-_, _^_}
 use lib.IntN.{ℤ, pos, negsuc}
-use lib.ListN.{getD}
 use lib.Signed.{ltZ}
-use mir.Syntax.{w64}
-use mir.Val.{ofZ}
+use mir.Syntax.{w32, w64}
+use mir.Val.{ofZ, hbits}
+use Rattle.integers.specs.Lists.{cell}
 use Rattle.plan.specs.declared.Task.{Task}
+use Rattle.plan.specs.declared.Power.{Power}
 use Rattle.plan.specs.declared.Resource.{Resource}
+use Rattle.plan.specs.declared.Sense.{Sense}
+use Rattle.plan.specs.declared.Sense.the-variants.{AtLeast}
 use Rattle.plan.specs.declared.Span.{Span}
 use Rattle.plan.specs.declared.PowerSpan.{PowerSpan}
 use Rattle.plan.specs.Days.{day}
 use Rattle.plan.specs.Powers.{power}
-
-abbrev pub cell : List ℤ → ℕ → ℤ
-cell r k = getD r k (pos 0)
+use Rattle.rules.specs.Frame.{Frame, plain}
 
 abbrev pub daysIn : List ℤ → ℕ → ℕ → Span
 daysIn r a b = record { low = day (cell r a); high = day (cell r b) }
@@ -34,23 +35,30 @@ taskOf r =
       height = powersIn r 7 8;
     }
 
--- what stands past the end
-unfoldable pub noTask : Task
-noTask = taskOf []
-
 unfoldable pub tasksOf : List (List ℤ) → List Task
 tasksOf s = map taskOf s
 
 -- "any signed 32-bit number"; a cell outside of these counts as 0
+abbrev pub idHigh : ℕ
+idHigh = 2 ^ hbits w32 - 1
+
 unfoldable pub idOf : ℤ → ℤ
-idOf x = cond (ltZ x (negsuc 2147483647)) (pos 0) (cond (ltZ (pos 2147483647) x) (pos 0) x)
+idOf x = cond (ltZ x (negsuc idHigh)) (pos 0) (cond (ltZ (pos idHigh) x) (pos 0) x)
 
 -- identifier and limit
 unfoldable pub resourceOf : List ℤ → Resource
 resourceOf r = record { id = idOf (cell r 0); limit = power (cell r 1) }
 
-unfoldable pub noResource : Resource
-noResource = resourceOf []
-
 unfoldable pub resourcesOf : List (List ℤ) → List Resource
 resourcesOf s = map resourceOf s
+
+abbrev pub withLimit : Power → Resource → Resource
+withLimit limit q = record { id = q .id; limit = limit }
+
+-- what no step changes, of a plan in rows
+abbrev pub frameOf : Sense → List (List ℤ) → Frame
+frameOf sense q = plain sense (resourcesOf q)
+
+-- as the steps see it
+abbrev pub atLeast : List (List ℤ) → Frame
+atLeast q = frameOf AtLeast q

@@ -6,12 +6,11 @@ ghost use mir.Syntax.{w64};
 ghost use mir.Val.{ofZ};
 ghost use lib.ListN.{length, getD, set};
 ghost use Rattle.integers.specs.Tests.{if};
-ghost use Rattle.integers.specs.Whole.{eqZ};
-ghost use Rattle.plan.specs.Days.{daysOf};
-ghost use Rattle.plan.specs.Powers.{powersOf};
-ghost use Rattle.rules.specs.Settle.{sameRange, sameTask};
-ghost use Rattle.rows.specs.Changes.{union, sameRanges, seenBy};
-ghost use Rattle.rows.specs.View.{taskOf, tasksOf, noTask, idOf, resourceOf, resourcesOf, noResource};
+ghost use Rattle.plan.specs.Sets.{union};
+ghost use Rattle.plan.specs.Tasks.{noTask, noResource};
+ghost use Rattle.rules.specs.Settle.{sameRanges, sameTask};
+ghost use Rattle.rows.specs.Changes.{seenBy};
+ghost use Rattle.rows.specs.View.{taskOf, tasksOf, idOf, resourceOf, resourcesOf, withLimit};
 use plan::Day;
 use plan::Power;
 use plan::PowerSpan;
@@ -19,12 +18,27 @@ use plan::Resource;
 use plan::Span;
 use plan::Task;
 
+// A row: set, then low and high of origin, duration, end and height.
+pub const TASK_CELLS: usize = 9;
+
+pub type TaskRow = [i64; TASK_CELLS];
+
+// A row: identifier and limit.
+pub const RESOURCE_CELLS: usize = 2;
+
+pub type ResourceRow = [i64; RESOURCE_CELLS];
+
+// The largest number of 64 bits, and the first whose top bit is set.
+const ALL_BITS: u64 = 0xffff_ffff_ffff_ffff;
+
+const TOP_BIT: u64 = 1 << 63;
+
 // A cell as a set, and back: the same 64 bits.
 fn set_of(x: i64) -> u64
     ensures { λ r. ⌜ r ≡ ofZ w64 x ⌝ }
 {
     if x < 0 {
-        0xffff_ffff_ffff_ffff - (-1 - x) as u64
+        ALL_BITS - (-1 - x) as u64
     } else {
         x as u64
     }
@@ -33,15 +47,14 @@ fn set_of(x: i64) -> u64
 fn set_in(x: u64) -> i64
     ensures { λ r. ⌜ ofZ w64 r ≡ x ⌝ }
 {
-    if x < 0x8000_0000_0000_0000 {
+    if x < TOP_BIT {
         x as i64
     } else {
-        -1 - ((0xffff_ffff_ffff_ffff - x) as i64)
+        -1 - ((ALL_BITS - x) as i64)
     }
 }
 
-// A row: set, then low and high of origin, duration, end and height.
-fn task_of(r: [i64; 9]) -> Task
+fn task_of(r: TaskRow) -> Task
     ensures { λ t. ⌜ t ≡ taskOf r ⌝ }
 {
     Task {
@@ -65,7 +78,7 @@ fn task_of(r: [i64; 9]) -> Task
     }
 }
 
-fn row_of(t: Task) -> [i64; 9]
+fn row_of(t: Task) -> TaskRow
     ensures { λ r. ⌜ taskOf r ≡ t ⌝ }
 {
     [
@@ -81,7 +94,7 @@ fn row_of(t: Task) -> [i64; 9]
     ]
 }
 
-pub fn task_at(s: &[[i64; 9]], i: usize) -> Task
+pub fn task_at(s: &[TaskRow], i: usize) -> Task
     requires { ⌜ i < length (now s) ⌝ }
     ensures { λ r. ⌜ r ≡ getD (tasksOf (now (s .entry))) i noTask ⌝ }
 {
@@ -89,7 +102,7 @@ pub fn task_at(s: &[[i64; 9]], i: usize) -> Task
     task_of(r)
 }
 
-pub fn put_task(s: &mut [[i64; 9]], i: usize, t: Task)
+pub fn put_task(s: &mut [TaskRow], i: usize, t: Task)
     requires { ⌜ i < length (now s) ⌝ }
     ensures { λ _. ⌜ tasksOf (now (s .exit)) ≡ set (tasksOf (now (s .entry))) i t ⌝ }
 {
@@ -97,14 +110,19 @@ pub fn put_task(s: &mut [[i64; 9]], i: usize, t: Task)
     s[i] = r;
 }
 
+// The ends of a signed number of 32 bits.
+const ID_LOW: i64 = -(1 << 31);
+
+const ID_HIGH: i64 = (1 << 31) - 1;
+
 // A cell as an identifier, 0 where it is none, and back.
 fn id_of(x: i64) -> i32
     ensures { λ r. ⌜ r ≡ idOf x ⌝ }
 {
-    if x < -0x8000_0000 {
+    if x < ID_LOW {
         return 0;
     }
-    if 0x7fff_ffff < x {
+    if ID_HIGH < x {
         return 0;
     }
     x as i32
@@ -116,8 +134,7 @@ fn id_in(x: i32) -> i64
     x as i64
 }
 
-// A row: identifier and limit.
-fn resource_of(r: [i64; 2]) -> Resource
+fn resource_of(r: ResourceRow) -> Resource
     ensures { λ q. ⌜ q ≡ resourceOf r ⌝ }
 {
     Resource {
@@ -126,13 +143,13 @@ fn resource_of(r: [i64; 2]) -> Resource
     }
 }
 
-fn resource_row(q: Resource) -> [i64; 2]
+fn resource_row(q: Resource) -> ResourceRow
     ensures { λ r. ⌜ resourceOf r ≡ q ⌝ }
 {
     [id_in(q.id), q.limit.0]
 }
 
-pub fn resource_at(s: &[[i64; 2]], i: usize) -> Resource
+pub fn resource_at(s: &[ResourceRow], i: usize) -> Resource
     requires { ⌜ i < length (now s) ⌝ }
     ensures { λ r. ⌜ r ≡ getD (resourcesOf (now (s .entry))) i noResource ⌝ }
 {
@@ -140,7 +157,7 @@ pub fn resource_at(s: &[[i64; 2]], i: usize) -> Resource
     resource_of(r)
 }
 
-pub fn put_resource(s: &mut [[i64; 2]], i: usize, q: Resource)
+pub fn put_resource(s: &mut [ResourceRow], i: usize, q: Resource)
     requires { ⌜ i < length (now s) ⌝ }
     ensures { λ _. ⌜ resourcesOf (now (s .exit)) ≡ set (resourcesOf (now (s .entry))) i q ⌝ }
 {
@@ -149,72 +166,37 @@ pub fn put_resource(s: &mut [[i64; 2]], i: usize, q: Resource)
 }
 
 // The limit alone, where it lies.
-pub fn limit_at(s: &[[i64; 2]], i: usize) -> Power
+pub fn limit_at(s: &[ResourceRow], i: usize) -> Power
     requires { ⌜ i < length (now s) ⌝ }
     ensures { λ r. ⌜ r ≡ (getD (resourcesOf (now (s .entry))) i noResource) .limit ⌝ }
 {
     Power(s[i][1])
 }
 
-// "changes nothing": the same set and ranges.
-fn same_day(a: Day, b: Day) -> bool
-    ensures { λ r. ⌜ r ≡ eqZ (a .0) (b .0) ⌝ }
+// Another limit in its place; the identifier stays as it lies.
+pub fn put_limit(s: &mut [ResourceRow], i: usize, limit: Power)
+    requires { ⌜ i < length (now s) ⌝ }
+    ensures { λ _. ⌜ resourcesOf (now (s .exit)) ≡ set (resourcesOf (now (s .entry))) i (withLimit limit (getD (resourcesOf (now (s .entry))) i noResource)) ⌝ }
 {
-    a.0 == b.0
-}
-
-fn same_power(a: Power, b: Power) -> bool
-    ensures { λ r. ⌜ r ≡ eqZ (a .0) (b .0) ⌝ }
-{
-    a.0 == b.0
-}
-
-fn same_days(a: Span, b: Span) -> bool
-    ensures { λ r. ⌜ r ≡ sameRange (daysOf a) (daysOf b) ⌝ }
-{
-    if same_day(a.low, b.low) {
-        same_day(a.high, b.high)
-    } else {
-        false
-    }
-}
-
-fn same_powers(a: PowerSpan, b: PowerSpan) -> bool
-    ensures { λ r. ⌜ r ≡ sameRange (powersOf a) (powersOf b) ⌝ }
-{
-    if same_power(a.low, b.low) {
-        same_power(a.high, b.high)
-    } else {
-        false
-    }
+    let r = s[i];
+    s[i] = [r[0], limit.0];
 }
 
 fn same_ranges(a: Task, b: Task) -> bool
     ensures { λ r. ⌜ r ≡ sameRanges a b ⌝ }
 {
-    if same_days(a.origin, b.origin) {
-        if same_days(a.duration, b.duration) {
-            if same_days(a.end, b.end) {
-                same_powers(a.height, b.height)
-            } else {
-                false
-            }
-        } else {
-            false
-        }
-    } else {
-        false
-    }
+    let o = a.origin;
+    let d = a.duration;
+    let e = a.end;
+    let h = a.height;
+    o.is(b.origin) && (d.is(b.duration) && (e.is(b.end) && h.is(b.height)))
 }
 
+// "changes nothing": the same set and ranges.
 pub fn same_task(a: Task, b: Task) -> bool
     ensures { λ r. ⌜ r ≡ sameTask a b ⌝ }
 {
-    if a.set == b.set {
-        same_ranges(a, b)
-    } else {
-        false
-    }
+    a.set == b.set && same_ranges(a, b)
 }
 
 // The resources that see t become u: where only resources went and more than one is left, those that stay see no change.
@@ -222,7 +204,7 @@ fn seen_by(t: Task, u: Task) -> u64
     ensures { λ r. ⌜ r ≡ seenBy t u ⌝ }
 {
     if same_ranges(t, u) {
-        if plan::single_resource(u.set) {
+        if plan::at_most_one(u.set) {
             t.set
         } else {
             t.set ^ u.set
@@ -239,7 +221,7 @@ pub struct Stepped {
 }
 
 // A task put back as u, if that changed it; then the places that see the change are noted among the touched.
-pub fn put_changed(s: &mut [[i64; 9]], i: usize, u: Task, touched: u64) -> u64
+pub fn put_changed(s: &mut [TaskRow], i: usize, u: Task, touched: u64) -> u64
     requires { ⌜ i < length (now s) ⌝ }
     ensures after { λ _. ⌜ tasksOf (now (s .exit)) ≡ set (tasksOf (now (s .entry))) i u ⌝ }
     ensures noted { λ r. ⌜ r ≡ if (sameTask (getD (tasksOf (now (s .entry))) i noTask) u) touched (union touched (seenBy (getD (tasksOf (now (s .entry))) i noTask) u)) ⌝ }

@@ -12,9 +12,10 @@ use Rattle.integers.proofs.Tests.{by-cases}
 use Rattle.plan.specs.declared.Task.{Task}
 use Rattle.plan.specs.declared.Sense.{Sense}
 use Rattle.plan.specs.declared.Sense.the-variants.{AtMost, AtLeast}
-use Rattle.plan.specs.Powers.{turned}
+use Rattle.plan.specs.Powers.{negatedPowers}
 use Rattle.rules.specs.Allowed.{Choice, covers, adds, level, meets}
-use Rattle.rules.specs.Step.{negated, resourceStep}
+use Rattle.rules.specs.Frame.{Frame, limitOn}
+use Rattle.rules.specs.Step.{negated, senseStep, resourceStep}
 use Rattle.rules.proofs.Inside.{Inside, Fit}
 use Rattle.rules.proofs.Inside.Fit.{none, more}
 use Rattle.rules.proofs.Limits.{Holds}
@@ -24,9 +25,9 @@ use Rattle.rules.proofs.StepSound.{step-stays}
 abbrev pub negatedChoice : Choice → Choice
 negatedChoice c = record { resource = c .resource; origin = c .origin; duration = c .duration; end = c .end; height = negℤ (c .height) }
 
-turn : (t : Task) (c : Choice) → Inside t c → Inside (negated t) (negatedChoice c)
-unfolding negated turned
-turn t c h =
+inside-negated : (t : Task) (c : Choice) → Inside t c → Inside (negated t) (negatedChoice c)
+unfolding negated negatedPowers
+inside-negated t c h =
     let p = h .height in
     record {
       set = h .set;
@@ -36,9 +37,9 @@ turn t c h =
       height = omega (z, ~z (c .height), ~z (t .height .low .0), ~z (t .height .high .0));
     }
 
-turn-back : (t : Task) (c : Choice) → Inside t (negatedChoice c) → Inside (negated t) c
-unfolding negated turned
-turn-back t c h =
+inside-back : (t : Task) (c : Choice) → Inside t (negatedChoice c) → Inside (negated t) c
+unfolding negated negatedPowers
+inside-back t c h =
     let p = h .height in
     record {
       set = h .set;
@@ -48,51 +49,55 @@ turn-back t c h =
       height = omega (z, ~z (c .height), ~z (t .height .low .0), ~z (t .height .high .0));
     }
 
-fit-turn : {ts : List Task} {cs : List Choice} → Fit ts cs → Fit (map negated ts) (map negatedChoice cs)
-fit-turn none = none
-fit-turn (more {t} {c} h j f) = more (turn t c h) j (fit-turn f)
+fit-negated : {ts : List Task} {cs : List Choice} → Fit ts cs → Fit (map negated ts) (map negatedChoice cs)
+fit-negated none = none
+fit-negated (more {t} {c} h j f) = more (inside-negated t c h) j (fit-negated f)
 
 fit-back : (cs : List Choice) (ts : List Task) → Fit ts (map negatedChoice cs) → Fit (map negated ts) cs
 fit-back [] ts none = none
-fit-back (c ∷ cs) ts (more {t} {ts = us} h j f) = more (turn-back t c h) j (fit-back cs us f)
+fit-back (c ∷ cs) ts (more {t} {ts = us} h j f) = more (inside-back t c h) j (fit-back cs us f)
 
 -- ---- the level is negated, the covered days stay
 module _ (r : ℕ) (i : ℤ) where
-  adds-turn : (c : Choice) → adds r i (negatedChoice c) ≡ negℤ (adds r i c)
+  adds-negated : (c : Choice) → adds r i (negatedChoice c) ≡ negℤ (adds r i c)
   unfolding adds covers
-  adds-turn c = by-cases (covers r i c) (λ e. rw e) (λ e. rw e)
+  adds-negated c = by-cases (covers r i c) (λ e. rw e) (λ e. rw e)
 
-  level-turn : (cs : List Choice) → level r i (map negatedChoice cs) ≡ negℤ (level r i cs)
+  level-negated : (cs : List Choice) → level r i (map negatedChoice cs) ≡ negℤ (level r i cs)
   unfolding level sumOf
-  level-turn [] = refl
-  level-turn (c ∷ cs) =
-      let a = adds-turn c in
-      let b = level-turn cs in
+  level-negated [] = refl
+  level-negated (c ∷ cs) =
+      let a = adds-negated c in
+      let b = level-negated cs in
       let x = adds r i c in
       let y = sumOf (adds r i) cs in
       omega (z, +z (adds r i (negatedChoice c)) (sumOf (adds r i) (map negatedChoice cs)), +z x y, ~z x, ~z y, ~z (x +ℤ y))
 
-  any-turn : (cs : List Choice) → any (covers r i) (map negatedChoice cs) ≡ any (covers r i) cs
+  any-negated : (cs : List Choice) → any (covers r i) (map negatedChoice cs) ≡ any (covers r i) cs
   unfolding any covers
-  any-turn [] = refl
-  any-turn (c ∷ cs) = ap (or (covers r i c)) (any-turn cs)
+  any-negated [] = refl
+  any-negated (c ∷ cs) = ap (or (covers r i c)) (any-negated cs)
 
 module _ (r : ℕ) (limit : ℤ → ℤ) (cs : List Choice) where
-  pub holds-turn : Holds AtMost r limit cs → Holds AtLeast r (λ i. negℤ (limit i)) (map negatedChoice cs)
+  pub holds-at-least : Holds AtMost r limit cs → Holds AtLeast r (λ i. negℤ (limit i)) (map negatedChoice cs)
   unfolding meets
-  holds-turn h i a =
-      let b : leZ (level r i cs) (limit i) ≡ true = h i (rw (any-turn r i cs) at a) in
-      leZ-in (negℤ (limit i)) (level r i (map negatedChoice cs)) (omega (z, level-turn r i cs, ~z (limit i), ~z (level r i cs)))
+  holds-at-least h i a =
+      let b : leZ (level r i cs) (limit i) ≡ true = h i (rw (any-negated r i cs) at a) in
+      leZ-in (negℤ (limit i)) (level r i (map negatedChoice cs)) (omega (z, level-negated r i cs, ~z (limit i), ~z (level r i cs)))
 
-  pub holds-unturn : Holds AtLeast r (λ i. negℤ (limit i)) (map negatedChoice cs) → Holds AtMost r limit cs
+  pub holds-at-most : Holds AtLeast r (λ i. negℤ (limit i)) (map negatedChoice cs) → Holds AtMost r limit cs
   unfolding meets
-  holds-unturn h i a =
-      let b : leZ (negℤ (limit i)) (level r i (map negatedChoice cs)) ≡ true = h i (rw (any-turn r i cs) a) in
-      leZ-in (level r i cs) (limit i) (omega (z, level-turn r i cs, ~z (limit i), ~z (level r i cs)))
+  holds-at-most h i a =
+      let b : leZ (negℤ (limit i)) (level r i (map negatedChoice cs)) ≡ true = h i (rw (any-negated r i cs) a) in
+      leZ-in (level r i cs) (limit i) (omega (z, level-negated r i cs, ~z (limit i), ~z (level r i cs)))
 
-pub resource-step-stays : (sense : Sense) (r : ℕ) (limit : ℤ → ℤ) (ts : List Task) (cs : List Choice) → Fit ts cs → Holds sense r limit cs → PlanStays cs (resourceStep sense r limit ts)
-unfolding resourceStep
-resource-step-stays AtLeast r limit ts cs f h = step-stays r limit ts cs f h
-resource-step-stays AtMost r limit ts cs f h =
-    let p = step-stays r (λ i. negℤ (limit i)) (map negated ts) (map negatedChoice cs) (fit-turn f) (holds-turn r limit cs h) in
+sense-step-stays : (sense : Sense) (r : ℕ) (limit : ℤ → ℤ) (ts : List Task) (cs : List Choice) → Fit ts cs → Holds sense r limit cs → PlanStays cs (senseStep sense r limit ts)
+unfolding senseStep
+sense-step-stays AtLeast r limit ts cs f h = step-stays r limit ts cs f h
+sense-step-stays AtMost r limit ts cs f h =
+    let p = step-stays r (λ i. negℤ (limit i)) (map negated ts) (map negatedChoice cs) (fit-negated f) (holds-at-least r limit cs h) in
     record { tasks = map negated (p .tasks); is = rw (p .is); fit = fit-back cs (p .tasks) (p .fit) }
+
+pub resource-step-stays : (f : Frame) (r : ℕ) (ts : List Task) (cs : List Choice) → Fit ts cs → Holds (f .sense) r (limitOn f r) cs → PlanStays cs (resourceStep f r ts)
+unfolding resourceStep
+resource-step-stays f r ts cs g h = sense-step-stays (f .sense) r (limitOn f r) ts cs g h

@@ -1,222 +1,162 @@
--- What the entry checks say of every task, and that a plan inside an accepted one is accepted again.
-use mathlib.Core.Path.{_≡_, refl, sym, _∙_, subst}
-use Prim.Native.Nat.{ℕ, suc, _^_, _≤_, _<_}
+-- What the entry checks say of an accepted plan, and that a plan inside an accepted one is accepted again.
+use mathlib.Core.Path.{_≡_, refl, sym, _∙_}
+use Prim.Native.Nat.{ℕ, zero, suc, _≤_, _<_}
 use native.Mathlib.Omega.{arith}
-use native.Mathlib.Nat.{pow-le-pow-right}
+use native.Mathlib.Nat.{not-suc-le-zero, le-of-suc-le-suc}
 use mathlib.Core.List.{List, [], _∷_}
 use mathlib.Core.Bool.{Bool, true, false, not}
-use lib.IntN.{ℤ}
-use lib.Signed.{leZ, _≤ℤ_}
-use lib.Dec.{T, eqb, ltb, ltb→lt, nltb→le, lt→ltb}
-use lib.ListN.{length}
-use Rattle.integers.specs.Tests.{and, or}
-use Rattle.integers.proofs.Z.{z, leZ-in}
-use Rattle.integers.proofs.Tests.{clash, and-first, and-second}
-use Rattle.integers.proofs.Hull.{Sub}
+use lib.Dec.{eqb, ltb}
+use lib.ListN.{length, getD}
+use lib.Signed.{_≤ℤ_}
+use borrow.Author.Tests.{ltb-false, eqb-false, not-false}
+use Rattle.integers.specs.Tests.{or}
+use Rattle.integers.proofs.Tests.{or-none}
+use Rattle.integers.specs.Hull.{Range, within}
+use Rattle.integers.specs.Ends.{InEnds, Within}
+use Rattle.integers.specs.Lists.{Each}
+use Rattle.integers.specs.Lists.Each.{nothing, also}
+use Rattle.integers.proofs.Z.{z}
+use Rattle.integers.proofs.Hull.{Sub, within-is}
+use Rattle.integers.proofs.Lists.{each-so}
 use Rattle.plan.specs.declared.Task.{Task}
-use Rattle.plan.specs.declared.Span.{Span}
-use Rattle.plan.specs.declared.PowerSpan.{PowerSpan}
 use Rattle.plan.specs.declared.Resource.{Resource}
+use Rattle.plan.specs.declared.Sense.{Sense}
 use Rattle.plan.specs.declared.Refusal.{Refusal}
 use Rattle.plan.specs.declared.Refusal.the-variants.{TooManyTasks, ResourceCount, LimitOutside, RangeOutside, SetOutside}
-use Rattle.plan.specs.Days.{daysOf, dayLow, dayHigh, durationLow, durationHigh, spanFits}
-use Rattle.plan.specs.Powers.{powerLow, powerHigh, powersOf, powersFit, powerFits}
+use Rattle.plan.specs.declared.Checked.{Checked}
+use Rattle.plan.specs.declared.Checked.the-variants.{Accepted, Refused}
+use Rattle.plan.specs.Days.{daysOf, dayEnds, durationEnds}
+use Rattle.plan.specs.Powers.{powersOf, powerEnds}
+use Rattle.plan.specs.Tasks.{mostTasks, mostResources, noResource, TaskFits}
 use Rattle.plan.proofs.Sets.{sub-le}
-use Rattle.rules.specs.Calls.{Checked, orElse, refuseIf, rangesFit, setFits, tasksFit, check, repeats, limits, mostTasks, mostResources}
-use Rattle.rules.specs.Calls.Checked.{Accepted, Refuse}
-use Rattle.rules.proofs.Limits.{ResourceAt}
-use Rattle.rules.proofs.Limits.ResourceAt.{first, next}
+use Rattle.rules.specs.Frame.{Frame, plain, resourceCount, resourceAt}
+use Rattle.rules.specs.Calls.{orElse, refuseIf, rangesFit, setFits, tasksFit, check, repeats, limits}
+use Rattle.rules.proofs.Fits.{task-fits-is, fits-wide, bounded-in, set-fits-in}
 use Rattle.rules.proofs.Live.{Live, Lives, live-fits}
-use Rattle.rules.proofs.Live.Lives.{no-lives, more-lives}
 use Rattle.rules.proofs.Subs.{SubTask, Subs, subs-length}
 use Rattle.rules.proofs.Subs.Subs.{no-subs, more-subs}
 
 -- ---- one check after another
-or-else-first : (a b : Checked) → orElse a b ≡ Accepted → a ≡ Accepted
-or-else-first Accepted b h = refl
-or-else-first (Refuse f) b h = h
+no-refusal : {P : Type 0} (f : Refusal) → Refused f ≡ Accepted → P
+no-refusal f h = let q : _≡_ {A = ℕ} 0 1 = cc in absurd (omega arith)
 
-or-else-second : (a b : Checked) → orElse a b ≡ Accepted → b ≡ Accepted
-or-else-second Accepted b h = h
-or-else-second (Refuse f) b h = let q : _≡_ {A = ℕ} 0 1 = cc (h) in absurd (omega arith)
+-- past one check, and past all of a kind
+pub past : (b : Bool) (f : Refusal) (c : Checked) → orElse (refuseIf b f) c ≡ Accepted → (b ≡ false) × (c ≡ Accepted)
+past true f c h = no-refusal f h
+past false f c h = (refl, h)
 
-refuse-not : (b : Bool) (f : Refusal) → refuseIf b f ≡ Accepted → b ≡ false
-refuse-not true f h = let q : _≡_ {A = ℕ} 0 1 = cc (h) in absurd (omega arith)
-refuse-not false f h = refl
+pub past-all : (a c : Checked) → orElse a c ≡ Accepted → (a ≡ Accepted) × (c ≡ Accepted)
+past-all Accepted c h = (refl, h)
+past-all (Refused f) c h = no-refusal f h
 
--- ---- the tasks
--- every task passes checks 5 and 6, for n resources
-pub data Accepts (n : ℕ) : List Task → Type 0 where
-  no-tasks : Accepts n []
-  more-tasks : {t : Task} {ts : List Task} → rangesFit t ≡ true → setFits n t ≡ true → Accepts n ts → Accepts n (t ∷ ts)
-
-not-not : (b : Bool) → not b ≡ false → b ≡ true
-not-not true h = refl
-not-not false h = sym h
-
-pub accepts-is : (n k : ℕ) (ts : List Task) → tasksFit n k ts ≡ Accepted → Accepts n ts
+-- ---- the tasks and the limits
+tasks-fit-is : (n k : ℕ) (ts : List Task) → tasksFit n k ts ≡ Accepted → Each (TaskFits n) ts
 unfolding tasksFit
-accepts-is n k [] h = no-tasks
-accepts-is n k (t ∷ ts) h =
-    let a = refuseIf (not (rangesFit t)) (RangeOutside k) in
-    let b = refuseIf (not (setFits n t)) (SetOutside k) in
-    let g = or-else-second a (orElse b (tasksFit n (suc k) ts)) h in
-    more-tasks
-    (not-not (rangesFit t) (refuse-not (not (rangesFit t)) (RangeOutside k) (or-else-first a (orElse b (tasksFit n (suc k) ts)) h)))
-    (not-not (setFits n t) (refuse-not (not (setFits n t)) (SetOutside k) (or-else-first b (tasksFit n (suc k) ts) g)))
-    (accepts-is n (suc k) ts (or-else-second b (tasksFit n (suc k) ts) g))
+tasks-fit-is n k [] h = nothing
+tasks-fit-is n k (t ∷ ts) h =
+    let c = orElse (refuseIf (not (setFits n t)) (SetOutside k)) (tasksFit n (suc k) ts) in
+    let a = past (not (rangesFit t)) (RangeOutside k) c h in
+    let b = past (not (setFits n t)) (SetOutside k) (tasksFit n (suc k) ts) (a .1) in
+    also (task-fits-is n t (not-false (rangesFit t) (a .0)) (not-false (setFits n t) (b .0))) (tasks-fit-is n (suc k) ts (b .1))
 
-pub accepts-in : (n k : ℕ) {ts : List Task} → Accepts n ts → tasksFit n k ts ≡ Accepted
+tasks-fit-in : (n k : ℕ) {ts : List Task} → Each (TaskFits n) ts → tasksFit n k ts ≡ Accepted
 unfolding tasksFit
-accepts-in n k no-tasks = refl
-accepts-in n k (more-tasks h g f) = rw (h, g) (accepts-in n (suc k) f)
+tasks-fit-in n k nothing = refl
+tasks-fit-in n k (also {x = t} h f) = rw (bounded-in t (h .ranges), set-fits-in n t h) (tasks-fit-in n (suc k) f)
 
-pub accepts-live : (n : ℕ) {ts : List Task} → Accepts n ts → Lives ts
-accepts-live n no-tasks = no-lives
-accepts-live n (more-tasks {t} h g f) = more-lives (live-fits n t h g) (accepts-live n f)
+limits-is : (k j : ℕ) (qs : List Resource) → limits k qs ≡ Accepted → j < length qs → Within powerEnds (getD qs j noResource .limit .0)
+unfolding limits
+limits-is k j [] h l = absurd (not-suc-le-zero l)
+limits-is k zero (q ∷ qs) h l =
+    within-is powerEnds (q .limit .0)
+    (not-false (within powerEnds (q .limit .0)) (past (not (within powerEnds (q .limit .0))) (LimitOutside k) (limits (suc k) qs) h .0))
+limits-is k (suc j) (q ∷ qs) h l =
+    limits-is (suc k) j qs (past (not (within powerEnds (q .limit .0))) (LimitOutside k) (limits (suc k) qs) h .1) (le-of-suc-le-suc l)
 
--- no set names a place beyond the first m
-pub data Smalls (m : ℕ) : List Task → Type 0 where
-  no-smalls : Smalls m []
-  more-smalls : {t : Task} {ts : List Task} → t .set < 2 ^ m → Smalls m ts → Smalls m (t ∷ ts)
+-- ---- what is known of a plan that is accepted
+pub record Accepts (f : Frame) (ts : List Task) : Type 0 where
+  pub few : length ts ≤ mostTasks
+  pub some : 0 < resourceCount f
+  pub most : resourceCount f ≤ mostResources
+  pub limits : (r : ℕ) → r < resourceCount f → Within powerEnds (resourceAt f r .limit .0)
+  pub tasks : Each (TaskFits (resourceCount f)) ts
 
-pub set-below : (n : ℕ) (t : Task) → setFits n t ≡ true → t .set < 2 ^ n
-unfolding setFits
-set-below n t h = ltb→lt (t .set) (2 ^ n) (subst T (sym (and-second (not (eqb (t .set) 0)) (ltb (t .set) (2 ^ n)) h)) tt)
+-- the frame's own checks, beside the tasks'
+record Parts (f : Frame) (ts : List Task) : Type 0 where
+  few : ltb mostTasks (length ts) ≡ false
+  count : or (eqb (resourceCount f) 0) (ltb mostResources (resourceCount f)) ≡ false
+  limits : limits 0 (f .resources) ≡ Accepted
+  tasks : tasksFit (resourceCount f) 0 ts ≡ Accepted
 
-accepts-small : (n : ℕ) → n ≤ 64 → {ts : List Task} → Accepts n ts → Smalls 64 ts
-accepts-small n l no-tasks = no-smalls
-accepts-small n l (more-tasks {t} h g f) =
-    more-smalls {t = t}
-    (let a = set-below n t g in let b : 2 ^ n ≤ 2 ^ 64 = pow-le-pow-right {n = 2} (omega arith) {i = n} {j = 64} l in omega arith)
-    (accepts-small n l f)
-
--- ---- a task inside another
-span-kept : (a b : ℤ) (s u : Span) → Sub (daysOf u) (daysOf s) → u .low .0 ≤ℤ u .high .0 → spanFits a b s ≡ true → spanFits a b u ≡ true
-unfolding spanFits
-span-kept a b s u h l e =
-    let x = leZ a (s .low .0) in
-    let y = leZ (s .low .0) (s .high .0) in
-    let w = leZ (s .high .0) b in
-    let p : x ≡ true = and-first x (and y w) e in
-    let q : w ≡ true = and-second y w (and-second x (and y w) e) in
-    rw (leZ-in a (u .low .0) (omega z), leZ-in (u .low .0) (u .high .0) l, leZ-in (u .high .0) b (omega z))
-
-powers-kept : (s u : PowerSpan) → Sub (powersOf u) (powersOf s) → u .low .0 ≤ℤ u .high .0 → powersFit s ≡ true → powersFit u ≡ true
-unfolding powersFit
-powers-kept s u h l e =
-    let x = leZ powerLow (s .low .0) in
-    let y = leZ (s .low .0) (s .high .0) in
-    let w = leZ (s .high .0) powerHigh in
-    let p : x ≡ true = and-first x (and y w) e in
-    let q : w ≡ true = and-second y w (and-second x (and y w) e) in
-    rw (leZ-in powerLow (u .low .0) (omega z), leZ-in (u .low .0) (u .high .0) l, leZ-in (u .high .0) powerHigh (omega z))
-
-ranges-kept : (t u : Task) → SubTask u t → Live u → rangesFit t ≡ true → rangesFit u ≡ true
-unfolding rangesFit
-ranges-kept t u h l e =
-    let x = spanFits dayLow dayHigh (t .origin) in
-    let y = spanFits durationLow durationHigh (t .duration) in
-    let w = spanFits dayLow dayHigh (t .end) in
-    let v = powersFit (t .height) in
-    let after-origin : and y (and w v) ≡ true = and-second x (and y (and w v)) e in
-    let after-duration : and w v ≡ true = and-second y (and w v) after-origin in
-    rw (
-      span-kept dayLow dayHigh (t .origin) (u .origin) (h .origin) (l .origin) (and-first x (and y (and w v)) e),
-      span-kept durationLow durationHigh (t .duration) (u .duration) (h .duration) (l .duration) (and-first y (and w v) after-origin),
-      span-kept dayLow dayHigh (t .end) (u .end) (h .end) (l .end) (and-first w v after-duration),
-      powers-kept (t .height) (u .height) (h .height) (l .height) (and-second w v after-duration),
-    )
-
-true-of : (b : Bool) → T b → b ≡ true
-true-of true t = refl
-true-of false t = absurd t
-
-set-kept : (n : ℕ) (t u : Task) → SubTask u t → Live u → setFits n t ≡ true → setFits n u ≡ true
-unfolding setFits
-set-kept n t u h l e =
-    let a = set-below n t e in
-    let b = sub-le (u .set) (t .set) (h .set) in
-    rw (l .set) (true-of (ltb (u .set) (2 ^ n)) (lt→ltb (u .set) (2 ^ n) (omega arith)))
-
-pub accepts-kept : (n : ℕ) {us ts : List Task} → Subs us ts → Lives us → Accepts n ts → Accepts n us
-accepts-kept n no-subs no-lives no-tasks = no-tasks
-accepts-kept n (more-subs {u} {t} h f) (more-lives l k) (more-tasks a b c) =
-    more-tasks (ranges-kept t u h l a) (set-kept n t u h l b) (accepts-kept n f k c)
-
--- ---- all the checks
-check-same : (qs : List Resource) (us ts : List Task) → length us ≡ length ts → tasksFit (length qs) 0 us ≡ tasksFit (length qs) 0 ts → check qs us ≡ check qs ts
+parts : (f : Frame) (ts : List Task) → check f ts ≡ Accepted → Parts f ts
 unfolding check
-check-same qs us ts a b = rw (a, b)
+parts f ts h =
+    let n = resourceCount f in
+    let last = tasksFit n 0 ts in
+    let rest = orElse (repeats 0 [] (f .resources)) (orElse (limits 0 (f .resources)) last) in
+    let a = past (ltb mostTasks (length ts)) TooManyTasks (orElse (refuseIf (or (eqb n 0) (ltb mostResources n)) ResourceCount) rest) h in
+    let b = past (or (eqb n 0) (ltb mostResources n)) ResourceCount rest (a .1) in
+    let c = past-all (limits 0 (f .resources)) last (past-all (repeats 0 [] (f .resources)) (orElse (limits 0 (f .resources)) last) (b .1) .1) in
+    record { few = a .0; count = b .0; limits = c .0; tasks = c .1 }
 
-module _ (qs : List Resource) (ts : List Task) (h : check qs ts ≡ Accepted) where
-  few : Checked
-  few = refuseIf (ltb mostTasks (length ts)) TooManyTasks
-
-  some-resources : Checked
-  some-resources = refuseIf (or (eqb (length qs) 0) (ltb mostResources (length qs))) ResourceCount
-
-  after-few : orElse some-resources (orElse (repeats 0 [] qs) (orElse (limits 0 qs) (tasksFit (length qs) 0 ts))) ≡ Accepted
-  unfolding few some-resources check
-  after-few = or-else-second few (orElse some-resources (orElse (repeats 0 [] qs) (orElse (limits 0 qs) (tasksFit (length qs) 0 ts)))) h
-
-  -- at most 256 tasks
-  pub check-tasks : length ts ≤ mostTasks
-  unfolding few some-resources check
-  check-tasks =
-      nltb→le mostTasks (length ts)
-      (subst (λ x. T (not x))
-      (sym (refuse-not (ltb mostTasks (length ts)) TooManyTasks
-      (or-else-first few (orElse some-resources (orElse (repeats 0 [] qs) (orElse (limits 0 qs) (tasksFit (length qs) 0 ts)))) h)))
-      tt)
-
-  -- at most 16 resources
-  pub check-resources : length qs ≤ mostResources
-  unfolding some-resources
-  check-resources =
-      let e = refuse-not (or (eqb (length qs) 0) (ltb mostResources (length qs))) ResourceCount (or-else-first some-resources (orElse (repeats 0 [] qs) (orElse (limits 0 qs) (tasksFit (length qs) 0 ts))) after-few) in
-      nltb→le mostResources (length qs) (subst (λ x. T (not x)) (sym (second (eqb (length qs) 0) (ltb mostResources (length qs)) e)) tt)
-    where
-      second : (a b : Bool) → or a b ≡ false → b ≡ false
-      second true b e = clash true refl e
-      second false b e = e
-
-  after-resources : orElse (limits 0 qs) (tasksFit (length qs) 0 ts) ≡ Accepted
-  unfolding some-resources
-  after-resources =
-      or-else-second (repeats 0 [] qs) (orElse (limits 0 qs) (tasksFit (length qs) 0 ts))
-      (or-else-second some-resources (orElse (repeats 0 [] qs) (orElse (limits 0 qs) (tasksFit (length qs) 0 ts))) after-few)
-
-  pub check-limits : limits 0 qs ≡ Accepted
-  check-limits = or-else-first (limits 0 qs) (tasksFit (length qs) 0 ts) after-resources
-
-  pub check-accepts : Accepts (length qs) ts
-  check-accepts = accepts-is (length qs) 0 ts (or-else-second (limits 0 qs) (tasksFit (length qs) 0 ts) after-resources)
+module _ (f : Frame) (ts : List Task) (h : check f ts ≡ Accepted) where
+  pub accepts : Accepts f ts
+  accepts =
+      let n = resourceCount f in
+      let p = parts f ts h in
+      let e = or-none (eqb n 0) (ltb mostResources n) (p .count) in
+      record {
+        few = ltb-false mostTasks (length ts) (p .few);
+        some = omega (arith, eqb-false n 0 (e .0));
+        most = ltb-false mostResources n (e .1);
+        limits = λ r l. limits-is 0 r (f .resources) (p .limits) l;
+        tasks = tasks-fit-is n 0 ts (p .tasks);
+      }
 
   pub check-live : Lives ts
-  check-live = accepts-live (length qs) check-accepts
+  check-live = each-so (live-fits (resourceCount f)) (accepts .tasks)
 
-  pub check-small : Smalls 64 ts
-  check-small = accepts-small (length qs) (let a = check-resources in omega arith) check-accepts
+  -- and a set of u64 holds every place
+  pub check-wide : Each (TaskFits 64) ts
+  check-wide = each-so (fits-wide (resourceCount f) 64 (let m = accepts .most in omega arith)) (accepts .tasks)
 
-  -- a plan inside an accepted one, with nothing empty, is accepted again
-  pub check-kept : (us : List Task) → Subs us ts → Lives us → check qs us ≡ Accepted
-  check-kept us s l = same ∙ h
-    where
-      fits : tasksFit (length qs) 0 us ≡ tasksFit (length qs) 0 ts
-      fits = accepts-in (length qs) 0 (accepts-kept (length qs) s l check-accepts) ∙ sym (accepts-in (length qs) 0 check-accepts)
+-- ---- a plan inside an accepted one
+ends-kept : (e s u : Range) → Sub u s → u .low ≤ℤ u .high → InEnds e s → InEnds e u
+ends-kept e s u h l k = omega z
 
-      same : check qs us ≡ check qs ts
-      same = check-same qs us ts (subs-length s) fits
+task-kept : (n : ℕ) (t u : Task) → SubTask u t → Live u → TaskFits n t → TaskFits n u
+task-kept n t u h l k =
+    let b = k .ranges in
+    let s = k .places in
+    let le = sub-le (u .set) (t .set) (h .set) in
+    record {
+      ranges =
+          record {
+            origin = ends-kept dayEnds (daysOf (t .origin)) (daysOf (u .origin)) (h .origin) (l .origin) (b .origin);
+            duration = ends-kept durationEnds (daysOf (t .duration)) (daysOf (u .duration)) (h .duration) (l .duration) (b .duration);
+            end = ends-kept dayEnds (daysOf (t .end)) (daysOf (u .end)) (h .end) (l .end) (b .end);
+            height = ends-kept powerEnds (powersOf (t .height)) (powersOf (u .height)) (h .height) (l .height) (b .height);
+          };
+      some = omega (arith, eqb-false (u .set) 0 (l .set));
+      places = omega arith;
+    }
 
--- the limit of each resource of the list lies within its ends
-limit-at : (q : Resource) (r k : ℕ) (qs : List Resource) → ResourceAt q r k qs → limits k qs ≡ Accepted → powerFits (q .limit) ≡ true
-unfolding limits
-limit-at q r k qs (first {qs = ps}) h =
-    not-not (powerFits (q .limit))
-    (refuse-not (not (powerFits (q .limit))) (LimitOutside k) (or-else-first (refuseIf (not (powerFits (q .limit))) (LimitOutside k)) (limits (suc k) ps) h))
-limit-at q r k qs (next {p} {qs = ps} at) h =
-    limit-at q r (suc k) ps at (or-else-second (refuseIf (not (powerFits (p .limit))) (LimitOutside k)) (limits (suc k) ps) h)
+tasks-kept : (n : ℕ) {us ts : List Task} → Subs us ts → Lives us → Each (TaskFits n) ts → Each (TaskFits n) us
+tasks-kept n no-subs nothing nothing = nothing
+tasks-kept n (more-subs {u} {t} h f) (also l k) (also a b) = also (task-kept n t u h l a) (tasks-kept n f k b)
 
-pub check-limit : (qs : List Resource) (ts : List Task) → check qs ts ≡ Accepted → (r : ℕ) (q : Resource) → ResourceAt q r 0 qs → powerFits (q .limit) ≡ true
-check-limit qs ts h r q at = limit-at q r 0 qs at (check-limits qs ts h)
+check-same : (f : Frame) (us ts : List Task) → length us ≡ length ts → tasksFit (resourceCount f) 0 us ≡ tasksFit (resourceCount f) 0 ts → check f us ≡ check f ts
+unfolding check
+check-same f us ts a b = rw (a, b)
+
+-- with nothing empty, it is accepted again
+pub check-kept : (f : Frame) (ts : List Task) → check f ts ≡ Accepted → (us : List Task) → Subs us ts → Lives us → check f us ≡ Accepted
+check-kept f ts h us s l =
+    let n = resourceCount f in
+    let a = accepts f ts h .tasks in
+    check-same f us ts (subs-length s) (tasks-fit-in n 0 (tasks-kept n s l a) ∙ sym (tasks-fit-in n 0 a)) ∙ h
+
+-- the entry checks know no sense
+pub check-sense : (a b : Sense) (qs : List Resource) (ts : List Task) → check (plain a qs) ts ≡ check (plain b qs) ts
+unfolding check
+check-sense a b qs ts = refl

@@ -14,21 +14,22 @@ use Rattle.integers.proofs.Tests.{clash, if-case, same-test, not-out, not-any, 
 use Rattle.plan.specs.declared.Task.{Task}
 use Rattle.plan.specs.declared.Narrowed.{Narrowed}
 use Rattle.plan.specs.declared.Narrowed.the-variants.{Kept, RanOut}
-use Rattle.plan.specs.declared.Sense.the-variants.{AtLeast}
 use Rattle.plan.specs.Days.{daysOf}
 use Rattle.plan.specs.Powers.{powersOf}
 use Rattle.plan.specs.Sets.{has, only, without}
 use Rattle.rules.specs.Balance.{Outcome, andThen, each}
 use Rattle.rules.specs.Balance.Outcome.{NoPlan, Plan}
-use Rattle.rules.specs.Step.{possible, running, sure, hope, total, others, counts, shortfall, needed, barred, shut, keepsOrigin, keepsDuration, keepsEnd, keepsHeight, neededSet, keptSet, narrowed, listedDays, atLeastStep, resourceStep}
-use Rattle.rules.proofs.Days.{In, every-day}
-use Rattle.rules.proofs.Days.In.{head, tail}
+use Rattle.rules.specs.Step.{possible, running, sure, hope, total, others, counts, shortfall, needed, barred, shut, keepsOrigin, keepsDuration, keepsEnd, keepsHeight, neededSet, keptSet, narrowed, listedDays, atLeastStep}
+use Rattle.integers.specs.Lists.{In}
+use Rattle.rules.proofs.Days.{every-day}
+use Rattle.integers.specs.Lists.In.{head, tail}
 use Rattle.rules.proofs.Live.{Live, Lives}
-use Rattle.rules.proofs.Shrinks.{Shrunk, resource-step-shrunk}
-use Rattle.rules.proofs.Quiet.{narrowed-quiet, possible-away, sure-away, narrowed-away}
+use Rattle.rules.proofs.Shrinks.{Shrunk, step-shrunk}
+use Rattle.rules.proofs.Untouched.{narrowed-untouched, possible-away, sure-away, narrowed-away}
 use Rattle.rules.proofs.Sets.{kept-set-is, no-need-spoke, no-bar-spoke}
-use Rattle.rules.proofs.Possible.{no-sure, no-need, no-bar, no-shut}
-use Rattle.rules.proofs.Unlisted.{live-in, no-shortfall-ever}
+use Rattle.rules.proofs.TaskDay.{no-sure, no-need, no-bar, no-shut}
+use Rattle.integers.proofs.Lists.{each-in}
+use Rattle.rules.proofs.Unlisted.{no-shortfall-ever}
 
 -- r sees no difference: the ranges are the same, and both sets have r and another resource
 pub record Alike (r : ℕ) (t u : Task) : Type 0 where
@@ -247,7 +248,7 @@ module _ (r : ℕ) (limit : ℤ → ℤ) (ts us : List Task) (same-total : (i : 
   alike-kept : (days : List ℤ) → Live u → narrowed r limit us days u ≡ Kept u
   unfolding shut
   alike-kept days l =
-      narrowed-quiet r limit us days u
+      narrowed-untouched r limit us days u
       (λ i. record { need = unneeded i; bar = rw (a .shares); leave = unmoved i; height = λ s. clash (sure r i u) s (unsure-second r a i) })
       l
 
@@ -262,8 +263,8 @@ and-then-still t ts (Kept u) (Plan us) e =
 
 pub still-each : (f : Task → Narrowed) (ts : List Task) → each f ts ≡ Plan ts → (t : Task) → In t ts → f t ≡ Kept t
 unfolding each
-still-each f ts e t (head {ts = us}) = and-then-still t us (f t) (each f us) e .0
-still-each f ts e t (tail {u} {ts = us} k) = still-each f us (and-then-still u us (f u) (each f us) e .1) t k
+still-each f ts e t (head {xs = us}) = and-then-still t us (f t) (each f us) e .0
+still-each f ts e t (tail {y = u} {xs = us} k) = still-each f us (and-then-still u us (f u) (each f us) e .1) t k
 
 module _ (r : ℕ) (limit : ℤ → ℤ) (ts us : List Task) (beside : Beside r ts us) (lives : Lives ts) (still : (t : Task) → In t ts → narrowed r limit ts (listedDays ts) t ≡ Kept t) where
   each-beside : {vs ws : List Task} → Beside r vs ws → ((t : Task) → In t vs → In t ts) → ((u : Task) → In u ws → In u us) → each (narrowed r limit us (listedDays us)) ws ≡ Plan ws
@@ -271,7 +272,7 @@ module _ (r : ℕ) (limit : ℤ → ℤ) (ts us : List Task) (beside : Beside r 
   each-beside no-tasks f g = refl
   each-beside (same-task {t} {us = ws} b) f g =
       let kept : narrowed r limit us (listedDays us) t ≡ Kept t =
-      sym (narrowed-same r limit t (live-in lives (f t head)) ts us (total-beside r beside) (counts-beside r beside) (f t head) (g t head)) ∙ still t (f t head) in
+      sym (narrowed-same r limit t (each-in lives (f t head)) ts us (total-beside r beside) (counts-beside r beside) (f t head) (g t head)) ∙ still t (f t head) in
       ap₂ andThen kept (each-beside b (λ v k. f v (tail k)) (λ v k. g v (tail k)))
   each-beside (other-set {t} {u} {us = ws} a l c) f g =
       ap₂ andThen
@@ -284,15 +285,14 @@ shortfall-beside : (r : ℕ) (limit : ℤ → ℤ) {ts us : List Task} → Besid
 unfolding shortfall
 shortfall-beside r limit b i = rw (counts-beside r b i, total-beside r b i)
 
-if-plan : (b : Bool) (o : Outcome) (ts : List Task) → if b NoPlan o ≡ Plan ts → (b ≡ false) × (o ≡ Plan ts)
+pub if-plan : (b : Bool) (o : Outcome) (ts : List Task) → if b NoPlan o ≡ Plan ts → (b ≡ false) × (o ≡ Plan ts)
 if-plan true o ts e = let q : _≡_ {A = ℕ} 0 1 = cc (e) in absurd (omega arith)
 if-plan false o ts e = (refl, e)
 
 -- what a step leaves is not empty
 step-lives : (r : ℕ) (limit : ℤ → ℤ) (ts : List Task) → atLeastStep r limit ts ≡ Plan ts → Lives ts
-unfolding resourceStep
 step-lives r limit ts e =
-    let s : Shrunk ts (Plan ts) = subst (Shrunk ts) e (resource-step-shrunk AtLeast r limit ts) in
+    let s : Shrunk ts (Plan ts) = subst (Shrunk ts) e (step-shrunk r limit ts) in
     s .1
 
 pub step-elsewhere : (r : ℕ) (limit : ℤ → ℤ) (ts us : List Task) → Beside r ts us → atLeastStep r limit ts ≡ Plan ts → atLeastStep r limit us ≡ Plan us

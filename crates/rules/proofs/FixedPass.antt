@@ -1,6 +1,6 @@
 -- One fixed choice: a pass finds no plan exactly where the choice breaks a rule, and else changes nothing.
 use mathlib.Core.Path.{_≡_, refl, sym, ap, ap₂, _∙_, subst}
-use Prim.Native.Nat.{ℕ, suc, _^_, _<_}
+use Prim.Native.Nat.{ℕ, _^_, _<_}
 use native.Mathlib.Omega.{arith}
 use mathlib.Core.List.{List, [], _∷_, map}
 use mathlib.Core.Bool.{true, false}
@@ -9,42 +9,43 @@ use Rattle.integers.specs.Whole.{eqZ}
 use Rattle.integers.specs.Tests.{if, and, all}
 use Rattle.integers.specs.Hull.{Range, range}
 use Rattle.integers.proofs.Z.{z, eqZ-is}
-use Rattle.integers.proofs.Tests.{clash, by-cases, and-first, and-second, and-in}
-use Rattle.integers.proofs.Hull.{Within}
+use Rattle.integers.proofs.Tests.{clash, by-cases, four-is, and-first, and-second, and-in}
+use Rattle.integers.specs.Ends.{Within}
 use Rattle.plan.specs.declared.Task.{Task}
-use Rattle.plan.specs.declared.Resource.{Resource}
-use Rattle.plan.specs.declared.Sense.{Sense}
+use Rattle.plan.specs.Tasks.{TaskFits}
 use Rattle.plan.specs.Days.{daysOf, spanOf}
 use Rattle.plan.specs.Powers.{powersOf, powerSpanOf}
 use Rattle.plan.specs.Sets.{has, size}
 use Rattle.plan.proofs.Sets.{eqb-true, has-alone, alone-only, has-le, size-same, size-some, some-place}
-use Rattle.rules.specs.Allowed.{Choice, inside, insideAll, joined, holds, holdsFrom, limitOn, allowed}
+use Rattle.rules.specs.Frame.{Frame, places, limitOn}
+use Rattle.rules.specs.Allowed.{Choice, inside, insideAll, joined, holds, allowed}
 use Rattle.rules.specs.Balance.{Outcome}
 use Rattle.rules.specs.Balance.Outcome.{NoPlan, Plan}
-use Rattle.rules.specs.Settle.{then, stepsFrom, pass}
+use Rattle.rules.specs.Step.{resourceStep}
+use Rattle.rules.specs.Settle.{then, steps, pass}
 use Rattle.rules.specs.Fixed.{fixed, oneValue, oneResource}
 use Rattle.rules.specs.Calls.{check}
-use Rattle.rules.specs.Calls.Checked.{Accepted}
+use Rattle.plan.specs.declared.Checked.the-variants.{Accepted}
 use Rattle.rules.proofs.Inside.{Inside, inside-is, inside-in}
 use Rattle.rules.proofs.Live.{Live, Lives}
-use Rattle.rules.proofs.Live.Lives.{no-lives, more-lives}
-use Rattle.rules.proofs.Checks.{Smalls, check-live, check-small}
-use Rattle.rules.proofs.Checks.Smalls.{more-smalls}
-use Rattle.rules.proofs.FixedSteps.{resource-step-fixed, balance-fixed}
+use Rattle.integers.specs.Lists.{Each}
+use Rattle.integers.specs.Lists.Each.{nothing, also}
+use Rattle.rules.proofs.Checks.{check-live, check-wide}
+use Rattle.rules.proofs.FixedSteps.{sense-step-fixed, balance-fixed}
 
 -- ---- the choice as a list of choices
-steps-fixed : (sense : Sense) (cs : List Choice) → all joined cs ≡ true → (r : ℕ) (qs : List Resource) → stepsFrom sense r qs (map fixed cs) ≡ if (holdsFrom sense r qs cs) (Plan (map fixed cs)) NoPlan
-unfolding stepsFrom holdsFrom
-steps-fixed sense cs j r [] = refl
-steps-fixed sense cs j r (q ∷ qs) =
-    ap (λ (o : Outcome). then o (stepsFrom sense (suc r) qs)) (resource-step-fixed sense r (limitOn q) cs j)
-    ∙ by-cases (holds sense r (limitOn q) cs) (λ h. rw h (steps-fixed sense cs j (suc r) qs)) (λ h. rw h)
+steps-fixed : (f : Frame) (cs : List Choice) → all joined cs ≡ true → (rs : List ℕ) → steps f rs (map fixed cs) ≡ if (all (λ r. holds (f .sense) r (limitOn f r) cs) rs) (Plan (map fixed cs)) NoPlan
+unfolding steps all resourceStep
+steps-fixed f cs j [] = refl
+steps-fixed f cs j (r ∷ rs) =
+    ap (λ (o : Outcome). then o (steps f rs)) (sense-step-fixed (f .sense) r (limitOn f r) cs j)
+    ∙ by-cases (holds (f .sense) r (limitOn f r) cs) (λ h. rw h (steps-fixed f cs j rs)) (λ h. rw h)
 
-pub pass-fixed : (sense : Sense) (qs : List Resource) (cs : List Choice) → pass sense qs (map fixed cs) ≡ if (allowed sense qs cs) (Plan (map fixed cs)) NoPlan
+pub pass-fixed : (f : Frame) (cs : List Choice) → pass f (map fixed cs) ≡ if (allowed f cs) (Plan (map fixed cs)) NoPlan
 unfolding pass allowed
-pass-fixed sense qs cs =
-    ap (λ (o : Outcome). then o (stepsFrom sense 0 qs)) (balance-fixed cs)
-    ∙ by-cases (all joined cs) (λ j. rw j (steps-fixed sense cs j 0 qs)) (λ j. rw j)
+pass-fixed f cs =
+    ap (λ (o : Outcome). then o (steps f (places f))) (balance-fixed cs)
+    ∙ by-cases (all joined cs) (λ j. rw j (steps-fixed f cs j (places f))) (λ j. rw j)
 
 -- ---- the choice as a list of tasks with one value in each range and one resource in each set
 record OneValue (t : Task) : Type 0 where
@@ -60,13 +61,12 @@ one-value-is t h =
     let d = eqZ (t .duration .low .0) (t .duration .high .0) in
     let e = eqZ (t .end .low .0) (t .end .high .0) in
     let p = eqZ (t .height .low .0) (t .height .high .0) in
-    let after-origin : and d (and e p) ≡ true = and-second o (and d (and e p)) h in
-    let after-duration : and e p ≡ true = and-second d (and e p) after-origin in
+    let k = four-is o d e p h in
     record {
-      origin = eqZ-is (t .origin .low .0) (t .origin .high .0) (and-first o (and d (and e p)) h);
-      duration = eqZ-is (t .duration .low .0) (t .duration .high .0) (and-first d (and e p) after-origin);
-      end = eqZ-is (t .end .low .0) (t .end .high .0) (and-first e p after-duration);
-      height = eqZ-is (t .height .low .0) (t .height .high .0) (and-second e p after-duration);
+      origin = eqZ-is (t .origin .low .0) (t .origin .high .0) (k .first);
+      duration = eqZ-is (t .duration .low .0) (t .duration .high .0) (k .second);
+      end = eqZ-is (t .end .low .0) (t .end .high .0) (k .third);
+      height = eqZ-is (t .height .low .0) (t .height .high .0) (k .fourth);
     }
 
 -- a set of one resource is that of any place it has
@@ -93,14 +93,14 @@ one-task t c l v w h =
     let p = one-range (powersOf (t .height)) (c .height) (e .height) (h .height) in
     λ j. record { set = a j; origin = spanOf (o j); duration = spanOf (d j); end = spanOf (n j); height = powerSpanOf (p j) }
 
-one-tasks : (ts : List Task) (cs : List Choice) → Smalls 64 ts → all oneValue ts ≡ true → all oneResource ts ≡ true → insideAll ts cs ≡ true → map fixed cs ≡ ts
+one-tasks : (ts : List Task) (cs : List Choice) → Each (TaskFits 64) ts → all oneValue ts ≡ true → all oneResource ts ≡ true → insideAll ts cs ≡ true → map fixed cs ≡ ts
 unfolding all insideAll
 one-tasks [] [] s v w h = refl
 one-tasks [] (c ∷ cs) s v w h = clash false h refl
 one-tasks (t ∷ ts) [] s v w h = clash false h refl
-one-tasks (t ∷ ts) (c ∷ cs) (more-smalls l s) v w h =
+one-tasks (t ∷ ts) (c ∷ cs) (also l s) v w h =
     ap₂ (λ (x : Task) (xs : List Task). x ∷ xs)
-    (one-task t c l (and-first (oneValue t) (all oneValue ts) v) (and-first (oneResource t) (all oneResource ts) w) (inside-is t c (and-first (inside t c) (insideAll ts cs) h)))
+    (one-task t c (l .places) (and-first (oneValue t) (all oneValue ts) v) (and-first (oneResource t) (all oneResource ts) w) (inside-is t c (and-first (inside t c) (insideAll ts cs) h)))
     (one-tasks ts cs s (and-second (oneValue t) (all oneValue ts) v) (and-second (oneResource t) (all oneResource ts) w) (and-second (inside t c) (insideAll ts cs) h))
 
 -- every accepted list has a choice inside
@@ -119,17 +119,16 @@ lowest t l =
 
 lowests : {ts : List Task} → Lives ts → (cs : List Choice) × (insideAll ts cs ≡ true)
 unfolding insideAll
-lowests no-lives = ([], refl)
-lowests (more-lives {t} {ts} l f) =
+lowests nothing = ([], refl)
+lowests (also {x = t} {xs = ts} l f) =
     let c = lowest t l in
     let cs = lowests f in
     (c .0 ∷ cs .0, and-in (inside t (c .0)) (insideAll ts (cs .0)) (inside-in t (c .0) (c .1)) (cs .1))
 
-module _ (qs : List Resource) (ts : List Task) (a : check qs ts ≡ Accepted) where
+module _ (f : Frame) (ts : List Task) (a : check f ts ≡ Accepted) where
   pub some-choice : (cs : List Choice) × (insideAll ts cs ≡ true)
-  some-choice = lowests (check-live qs ts a)
+  some-choice = lowests (check-live f ts a)
 
-  pub pass-one-choice : all oneValue ts ≡ true → all oneResource ts ≡ true → (sense : Sense) (cs : List Choice) → insideAll ts cs ≡ true → pass sense qs ts ≡ if (allowed sense qs cs) (Plan ts) NoPlan
-  pass-one-choice v w sense cs h =
-      subst (λ us. pass sense qs us ≡ if (allowed sense qs cs) (Plan us) NoPlan) (one-tasks ts cs (check-small qs ts a) v w h)
-      (pass-fixed sense qs cs)
+  pub pass-one-choice : all oneValue ts ≡ true → all oneResource ts ≡ true → (cs : List Choice) → insideAll ts cs ≡ true → pass f ts ≡ if (allowed f cs) (Plan ts) NoPlan
+  pass-one-choice v w cs h =
+      subst (λ us. pass f us ≡ if (allowed f cs) (Plan us) NoPlan) (one-tasks ts cs (check-wide f ts a) v w h) (pass-fixed f cs)

@@ -12,7 +12,8 @@ use Rattle.integers.specs.Sums.{sumOf}
 use Rattle.integers.specs.Hull.{Range, range}
 use Rattle.integers.proofs.Z.{z, +z, -z, maxz, minz, leZ-in, eqZ-in, negneg}
 use Rattle.integers.proofs.Tests.{clash, by-cases, if-case, same-test, and-first, and-second, not-out, or-left, not-any}
-use Rattle.integers.proofs.Hull.{Within, Sub}
+use Rattle.integers.proofs.Hull.{Sub}
+use Rattle.integers.specs.Ends.{Within}
 use Rattle.plan.specs.declared.Task.{Task}
 use Rattle.plan.specs.declared.Narrowed.{Narrowed}
 use Rattle.plan.specs.declared.Narrowed.the-variants.{Kept, RanOut}
@@ -20,28 +21,29 @@ use Rattle.plan.specs.declared.Value.the-variants.{Origin}
 use Rattle.plan.specs.declared.Sense.{Sense}
 use Rattle.plan.specs.declared.Sense.the-variants.{AtMost, AtLeast}
 use Rattle.plan.specs.Days.{daysOf, spanOf, cutBelow, cutAbove, cutTo}
-use Rattle.plan.specs.Powers.{powersOf, powerSpanOf, turned}
+use Rattle.plan.specs.Powers.{powersOf, powerSpanOf, negatedPowers}
 use Rattle.plan.specs.Sets.{has, only}
 use Rattle.plan.proofs.Sets.{eqb-true, eqb-in, has-alone, has-not-zero, alone-only, alone-is}
 use Rattle.rules.specs.Allowed.{Choice, covers, adds, level, joined, meets, holds}
 use Rattle.rules.specs.Balance.{Outcome, andThen, each, cuts, unlessEmpty, balanced, balance}
 use Rattle.rules.specs.Balance.Outcome.{NoPlan, Plan}
-use Rattle.rules.specs.Step.{possible, running, sure, hope, total, counts, shortfall, listedDays, atLeastStep, negated, negatedPlan, resourceStep}
+use Rattle.rules.specs.Step.{possible, running, sure, hope, total, counts, shortfall, listedDays, atLeastStep, negated, negatedPlan, senseStep}
 use Rattle.rules.specs.Fixed.{fixed}
-use Rattle.rules.proofs.Days.{In, listed}
-use Rattle.rules.proofs.Days.In.{head, tail}
+use Rattle.integers.specs.Lists.{In}
+use Rattle.rules.proofs.Days.{listed}
+use Rattle.integers.specs.Lists.In.{head, tail}
 use Rattle.rules.proofs.Inside.{Inside, Fit, covers-is, joined-is}
 use Rattle.rules.proofs.Inside.Fit.{none, more}
 use Rattle.rules.proofs.Limits.{Holds, holds-is, holds-in}
 use Rattle.rules.proofs.Stays.{PlanStays}
 use Rattle.rules.proofs.StepSound.{step-stays}
 use Rattle.rules.proofs.BalanceSound.{balance-stays}
-use Rattle.rules.proofs.AtMostSound.{negatedChoice, holds-turn, holds-unturn}
+use Rattle.rules.proofs.AtMostSound.{negatedChoice, holds-at-least, holds-at-most}
 use Rattle.rules.proofs.Live.{Lives}
-use Rattle.rules.proofs.Live.Lives.{no-lives, more-lives}
+use Rattle.integers.specs.Lists.Each.{nothing, also}
 use Rattle.rules.proofs.Subs.{SubTask, Subs}
 use Rattle.rules.proofs.Subs.Subs.{no-subs, more-subs}
-use Rattle.rules.proofs.Shrinks.{Shrunk, balance-shrunk, resource-step-shrunk}
+use Rattle.rules.proofs.Shrinks.{Shrunk, balance-shrunk, step-shrunk}
 
 -- ---- what lies inside one choice and has it inside is that choice
 one-range : (v : ℤ) (s : Range) → Sub s (range v v) → Within s v → s ≡ range v v
@@ -74,9 +76,9 @@ fit-fixed (c ∷ cs) h =
     (fit-fixed cs (and-second (joined c) (all joined cs) h))
 
 live-fixed : (cs : List Choice) → Lives (map fixed cs)
-live-fixed [] = no-lives
+live-fixed [] = nothing
 live-fixed (c ∷ cs) =
-    more-lives {t = fixed c}
+    also {x = fixed c}
     (record {
       origin = omega z;
       duration = omega z;
@@ -154,11 +156,11 @@ module _ (r : ℕ) (limit : ℤ → ℤ) (cs : List Choice) where
       leZ-in (limit i) (level r i cs) (omega z)
 
   step-fixed : all joined cs ≡ true → atLeastStep r limit (map fixed cs) ≡ if (holds AtLeast r limit cs) (Plan (map fixed cs)) NoPlan
-  unfolding atLeastStep resourceStep
+  unfolding atLeastStep
   step-fixed j =
       by-cases (holds AtLeast r limit cs)
       (λ h.
-      stays-fixed cs (atLeastStep r limit (map fixed cs)) (resource-step-shrunk AtLeast r limit (map fixed cs))
+      stays-fixed cs (atLeastStep r limit (map fixed cs)) (step-shrunk r limit (map fixed cs))
       (step-stays r limit (map fixed cs) cs (fit-fixed cs j) (holds-is AtLeast r limit cs h))
       ∙ sym (ap (λ b. if b (Plan (map fixed cs)) NoPlan) h))
       (λ h.
@@ -167,7 +169,7 @@ module _ (r : ℕ) (limit : ℤ → ℤ) (cs : List Choice) where
 
 -- ---- sense at most
 negated-fixed : (cs : List Choice) → map negated (map fixed cs) ≡ map fixed (map negatedChoice cs)
-unfolding negated turned
+unfolding negated negatedPowers
 negated-fixed [] = refl
 negated-fixed (c ∷ cs) = ap (λ (l : List Task). fixed (negatedChoice c) ∷ l) (negated-fixed cs)
 
@@ -186,13 +188,13 @@ holds-negated : (r : ℕ) (limit : ℤ → ℤ) (cs : List Choice) → holds AtL
 holds-negated r limit cs =
     let low : ℤ → ℤ = λ i. negℤ (limit i) in
     same-test (holds AtLeast r low (map negatedChoice cs)) (holds AtMost r limit cs)
-    (λ h. holds-in AtMost r limit cs (holds-unturn r limit cs (holds-is AtLeast r low (map negatedChoice cs) h)))
-    (λ h. holds-in AtLeast r low (map negatedChoice cs) (holds-turn r limit cs (holds-is AtMost r limit cs h)))
+    (λ h. holds-in AtMost r limit cs (holds-at-most r limit cs (holds-is AtLeast r low (map negatedChoice cs) h)))
+    (λ h. holds-in AtLeast r low (map negatedChoice cs) (holds-at-least r limit cs (holds-is AtMost r limit cs h)))
 
-pub resource-step-fixed : (sense : Sense) (r : ℕ) (limit : ℤ → ℤ) (cs : List Choice) → all joined cs ≡ true → resourceStep sense r limit (map fixed cs) ≡ if (holds sense r limit cs) (Plan (map fixed cs)) NoPlan
-unfolding resourceStep
-resource-step-fixed AtLeast r limit cs j = step-fixed r limit cs j
-resource-step-fixed AtMost r limit cs j =
+pub sense-step-fixed : (sense : Sense) (r : ℕ) (limit : ℤ → ℤ) (cs : List Choice) → all joined cs ≡ true → senseStep sense r limit (map fixed cs) ≡ if (holds sense r limit cs) (Plan (map fixed cs)) NoPlan
+unfolding senseStep
+sense-step-fixed AtLeast r limit cs j = step-fixed r limit cs j
+sense-step-fixed AtMost r limit cs j =
     ap (λ (ts : List Task). negatedPlan (atLeastStep r (λ i. negℤ (limit i)) ts)) (negated-fixed cs)
     ∙ ap negatedPlan (step-fixed r (λ i. negℤ (limit i)) (map negatedChoice cs) (joined-negated cs ∙ j))
     ∙ by-cases (holds AtMost r limit cs)

@@ -5,16 +5,17 @@ use Prim.Native.Nat.{ℕ}
 use mathlib.Core.List.{List}
 use mathlib.Core.Bool.{true}
 use lib.IntN.{ℤ, pos, _+ℤ_, _-ℤ_}
-use lib.Signed.{leZ, ltZ, _≤ℤ_, _<ℤ_}
-use Rattle.integers.specs.Tests.{if, and, any}
+use lib.Signed.{ltZ, _≤ℤ_, _<ℤ_}
+use Rattle.integers.specs.Tests.{if, any}
 use Rattle.integers.specs.Sums.{sumOf}
-use Rattle.integers.proofs.Z.{z, +z, -z, leZ-in, ltZ-in}
-use Rattle.integers.proofs.Tests.{clash, by-cases, if-case, and-first, and-second, and-in, or-left, any-first, any-later}
+use Rattle.integers.proofs.Z.{z, +z, -z}
+use Rattle.integers.proofs.Tests.{clash, by-cases, if-case, or-left, any-first, any-later}
 use Rattle.plan.specs.declared.Task.{Task}
-use Rattle.plan.specs.Sets.{has, only}
+use Rattle.plan.specs.Sets.{only}
 use Rattle.plan.proofs.Sets.{only-is, alone-only}
 use Rattle.rules.specs.Allowed.{Choice, covers, adds, level}
 use Rattle.rules.specs.Step.{possible, running, sure, hope, total, others, counts}
+use Rattle.rules.proofs.TaskDay.{possible-in, running-is, sure-only, sure-running}
 use Rattle.rules.proofs.Inside.{Inside, Covers, Fit, For, covers-is, covers-in}
 use Rattle.rules.proofs.Inside.Fit.{none, more}
 use Rattle.rules.proofs.Inside.For.{here, later}
@@ -22,25 +23,20 @@ use Rattle.rules.proofs.Inside.For.{here, later}
 -- ---- one task on one day
 module _ (r : ℕ) (i : ℤ) (t : Task) (c : Choice) (in-t : Inside t c) where
   pub covers-possible : Covers r i c → possible r i t ≡ true
-  unfolding possible
   covers-possible h =
       let o = in-t .origin in
       let e = in-t .end in
-      and-in (has (t .set) r) (and (leZ (t .origin .low .0) i) (ltZ i (t .end .high .0))) (rw (h .there) at (in-t .set))
-      (and-in (leZ (t .origin .low .0) i) (ltZ i (t .end .high .0))
-      (leZ-in (t .origin .low .0) i (omega z)) (ltZ-in i (t .end .high .0) (omega z)))
+      possible-in r i t (rw (h .there) at (in-t .set)) (omega z) (omega z)
 
   pub running-from : running r i t ≡ true → c .origin ≤ℤ i
-  unfolding running
   running-from h =
-      let a : leZ (t .origin .high .0) i ≡ true = and-first (leZ (t .origin .high .0) i) (ltZ i (t .end .low .0)) h in
+      let a = running-is r i t h in
       let o = in-t .origin in
       omega z
 
   pub running-to : running r i t ≡ true → i <ℤ c .end
-  unfolding running
   running-to h =
-      let a : ltZ i (t .end .low .0) ≡ true = and-second (leZ (t .origin .high .0) i) (ltZ i (t .end .low .0)) h in
+      let a = running-is r i t h in
       let e = in-t .end in
       omega z
 
@@ -49,11 +45,9 @@ module _ (r : ℕ) (i : ℤ) (t : Task) (c : Choice) (in-t : Inside t c) where
 
   -- a sure task covers the day
   pub sure-covers : sure r i t ≡ true → Covers r i c
-  unfolding sure
   sure-covers h =
-      let a = only-there (and-first (only (t .set) r) (running r i t) h) in
-      let b = and-second (only (t .set) r) (running r i t) h in
-      record { there = a; from = running-from b; to = running-to b }
+      let b = sure-running r i t h in
+      record { there = only-there (sure-only r i t h); from = running-from b; to = running-to b }
 
   pub adds-le : adds r i c ≤ℤ hope r i t
   unfolding adds hope

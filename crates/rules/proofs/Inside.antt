@@ -9,8 +9,9 @@ use lib.Dec.{eqb}
 use Rattle.integers.specs.Tests.{and, all}
 use Rattle.integers.specs.Hull.{within}
 use Rattle.integers.proofs.Z.{z, leZ-in, ltZ-in, eqZ-is}
-use Rattle.integers.proofs.Tests.{clash, and-first, and-second, and-in}
-use Rattle.integers.proofs.Hull.{Within, within-is, within-in}
+use Rattle.integers.proofs.Tests.{four-is, clash, and-first, and-second, and-in}
+use Rattle.integers.proofs.Hull.{within-is, within-in}
+use Rattle.integers.specs.Ends.{Within}
 use Rattle.plan.specs.declared.Task.{Task}
 use Rattle.plan.specs.Days.{daysOf}
 use Rattle.plan.specs.Powers.{powersOf}
@@ -34,15 +35,13 @@ inside-is t c h =
     let d = within (daysOf (t .duration)) (c .duration) in
     let e = within (daysOf (t .end)) (c .end) in
     let p = within (powersOf (t .height)) (c .height) in
-    let after-set : and o (and d (and e p)) ≡ true = and-second s (and o (and d (and e p))) h in
-    let after-origin : and d (and e p) ≡ true = and-second o (and d (and e p)) after-set in
-    let after-duration : and e p ≡ true = and-second d (and e p) after-origin in
+    let k = four-is o d e p (and-second s (and o (and d (and e p))) h) in
     record {
       set = and-first s (and o (and d (and e p))) h;
-      origin = within-is (daysOf (t .origin)) (c .origin) (and-first o (and d (and e p)) after-set);
-      duration = within-is (daysOf (t .duration)) (c .duration) (and-first d (and e p) after-origin);
-      end = within-is (daysOf (t .end)) (c .end) (and-first e p after-duration);
-      height = within-is (powersOf (t .height)) (c .height) (and-second e p after-duration);
+      origin = within-is (daysOf (t .origin)) (c .origin) (k .first);
+      duration = within-is (daysOf (t .duration)) (c .duration) (k .second);
+      end = within-is (daysOf (t .end)) (c .end) (k .third);
+      height = within-is (powersOf (t .height)) (c .height) (k .fourth);
     }
 
 pub inside-in : (t : Task) (c : Choice) → Inside t c → inside t c ≡ true

@@ -1,28 +1,27 @@
 -- Every step, and any sequence of steps, keeps the allowed plans of an accepted plan: the very same list, in the same order, inside
 -- an accepted plan whose ranges lie in the old ones; and with no plan there was none.
 use mathlib.Core.Path.{_≡_, refl, sym, _∙_, subst}
-use Prim.Native.Nat.{ℕ, zero, suc}
+use Prim.Native.Nat.{ℕ, _<_}
 use native.Mathlib.Omega.{arith}
 use mathlib.Core.List.{List, [], _∷_}
 use mathlib.Core.Bool.{true, false}
 use Rattle.integers.proofs.Z.{z}
-use Rattle.integers.proofs.Tests.{false-in, same-test, and-first, and-second, and-in}
+use borrow.Author.Tests.{ltb-true}
+use Rattle.integers.proofs.Tests.{if-case, false-in, same-test, and-first, and-second, and-in}
 use Rattle.plan.specs.declared.Task.{Task}
-use Rattle.plan.specs.declared.Resource.{Resource}
-use Rattle.plan.specs.declared.Sense.{Sense}
-use Rattle.rules.specs.Allowed.{Choice, inside, insideAll, allowed, limitOn}
+use Rattle.rules.specs.Frame.{Frame, resourceCount, isPlace}
+use Rattle.rules.specs.Allowed.{Choice, inside, insideAll, allowed}
 use Rattle.rules.specs.Listing.{plans}
 use Rattle.rules.specs.Balance.{Outcome, balance}
 use Rattle.rules.specs.Balance.Outcome.{NoPlan, Plan}
 use Rattle.rules.specs.Step.{resourceStep}
 use Rattle.rules.specs.Settle.{then}
-use Rattle.rules.specs.Moves.{Move, stepOf, move, play}
+use Rattle.rules.specs.Moves.{Move, move, play}
 use Rattle.rules.specs.Moves.Move.{Balance, StepOf}
 use Rattle.rules.specs.Calls.{check}
-use Rattle.rules.specs.Calls.Checked.{Accepted}
+use Rattle.plan.specs.declared.Checked.the-variants.{Accepted}
 use Rattle.rules.proofs.Inside.{Inside, Fit, inside-is, inside-in, fit-is, fit-in}
-use Rattle.rules.proofs.Limits.{ResourceAt, allowed-joined, allowed-holds}
-use Rattle.rules.proofs.Limits.ResourceAt.{first, next}
+use Rattle.rules.proofs.Limits.{allowed-joined, allowed-holds}
 use Rattle.rules.proofs.Stays.{PlanStays}
 use Rattle.rules.proofs.BalanceSound.{balance-stays}
 use Rattle.rules.proofs.AtMostSound.{resource-step-stays}
@@ -54,22 +53,22 @@ inside-wider (more-subs {u} {t} {us} {ts} s f) (c ∷ cs) h =
 
 -- ---- what a step, or some in a row, may answer on ts
 -- us has the allowed choices of ts, as choices and as listed, is accepted again and lies inside ts
-pub record Keeps (sense : Sense) (qs : List Resource) (ts us : List Task) : Type 0 where
-  pub choices : (cs : List Choice) → allowed sense qs cs ≡ true → insideAll us cs ≡ insideAll ts cs
-  pub same : plans sense qs us ≡ plans sense qs ts
-  pub accepted : check qs us ≡ Accepted
+pub record Keeps (f : Frame) (ts us : List Task) : Type 0 where
+  pub choices : (cs : List Choice) → allowed f cs ≡ true → insideAll us cs ≡ insideAll ts cs
+  pub same : plans f us ≡ plans f ts
+  pub accepted : check f us ≡ Accepted
   pub inside : Subs us ts
 
 -- no choice inside ts is allowed, and none is listed
-pub record Nothing (sense : Sense) (qs : List Resource) (ts : List Task) : Type 0 where
-  pub choices : (cs : List Choice) → allowed sense qs cs ≡ true → insideAll ts cs ≡ false
-  pub none : plans sense qs ts ≡ []
+pub record Nothing (f : Frame) (ts : List Task) : Type 0 where
+  pub choices : (cs : List Choice) → allowed f cs ≡ true → insideAll ts cs ≡ false
+  pub none : plans f ts ≡ []
 
-abbrev pub Sound : Sense → List Resource → List Task → Outcome → Type 0
-Sound sense qs ts NoPlan = Nothing sense qs ts
-Sound sense qs ts (Plan us) = Keeps sense qs ts us
+abbrev pub Sound : Frame → List Task → Outcome → Type 0
+Sound f ts NoPlan = Nothing f ts
+Sound f ts (Plan us) = Keeps f ts us
 
-pub keeps-then : {sense : Sense} {qs : List Resource} {ts us vs : List Task} → Keeps sense qs ts us → Keeps sense qs us vs → Keeps sense qs ts vs
+pub keeps-then : {f : Frame} {ts us vs : List Task} → Keeps f ts us → Keeps f us vs → Keeps f ts vs
 keeps-then h g =
     record {
       choices = λ cs ok. g .choices cs ok ∙ h .choices cs ok;
@@ -78,70 +77,65 @@ keeps-then h g =
       inside = subs-trans (g .inside) (h .inside);
     }
 
-pub nothing-then : {sense : Sense} {qs : List Resource} {ts us : List Task} → Keeps sense qs ts us → Nothing sense qs us → Nothing sense qs ts
+pub nothing-then : {f : Frame} {ts us : List Task} → Keeps f ts us → Nothing f us → Nothing f ts
 nothing-then h g = record { choices = λ cs ok. sym (h .choices cs ok) ∙ g .choices cs ok; none = sym (h .same) ∙ g .none }
 
-module _ (sense : Sense) (qs : List Resource) where
+module _ (f : Frame) where
   -- a step that shrinks and loses no allowed choice is sound
-  sound-by : (ts : List Task) → check qs ts ≡ Accepted → (o : Outcome) → Shrunk ts o → ((cs : List Choice) → allowed sense qs cs ≡ true → Fit ts cs → PlanStays cs o) → Sound sense qs ts o
+  sound-by : (ts : List Task) → check f ts ≡ Accepted → (o : Outcome) → Shrunk ts o → ((cs : List Choice) → allowed f cs ≡ true → Fit ts cs → PlanStays cs o) → Sound f ts o
   sound-by ts a NoPlan h k =
       record {
         choices = λ cs ok. false-in (insideAll ts cs) (lost cs ok);
-        none = plans-none sense qs ts lost;
+        none = plans-none f ts lost;
       }
     where
-      lost : (cs : List Choice) → allowed sense qs cs ≡ true → insideAll ts cs ≡ true → ⊥
+      lost : (cs : List Choice) → allowed f cs ≡ true → insideAll ts cs ≡ true → ⊥
       lost cs ok i =
-          let e = k cs ok (fit-is ts cs i (allowed-joined sense qs cs ok)) .is in
+          let e = k cs ok (fit-is ts cs i (allowed-joined f cs ok)) .is in
           let q : _≡_ {A = ℕ} 0 1 = cc in
           omega arith
   sound-by ts a (Plan us) h k =
       record {
         choices = λ cs ok. same-test (insideAll us cs) (insideAll ts cs) (inside-wider (h .0) cs) (stays cs ok);
-        same = plans-kept sense qs us ts (h .0) stays;
-        accepted = check-kept qs ts a us (h .0) (h .1);
+        same = plans-kept f us ts (h .0) stays;
+        accepted = check-kept f ts a us (h .0) (h .1);
         inside = h .0;
       }
     where
-      stays : (cs : List Choice) → allowed sense qs cs ≡ true → insideAll ts cs ≡ true → insideAll us cs ≡ true
+      stays : (cs : List Choice) → allowed f cs ≡ true → insideAll ts cs ≡ true → insideAll us cs ≡ true
       stays cs ok i =
-          let q = k cs ok (fit-is ts cs i (allowed-joined sense qs cs ok)) in
+          let q = k cs ok (fit-is ts cs i (allowed-joined f cs ok)) in
           let e : q .tasks ≡ us = cc (q .is) in
           subst (λ vs. insideAll vs cs ≡ true) e (fit-in (q .fit))
 
-  nothing-sound : (ts : List Task) → check qs ts ≡ Accepted → Sound sense qs ts (Plan ts)
+  pub nothing-sound : (ts : List Task) → check f ts ≡ Accepted → Sound f ts (Plan ts)
   nothing-sound ts a = record { choices = λ cs ok. refl; same = refl; accepted = a; inside = subs-self ts }
 
-  pub balance-sound : (ts : List Task) → check qs ts ≡ Accepted → Sound sense qs ts (balance ts)
-  balance-sound ts a = sound-by ts a (balance ts) (balance-shrunk (check-live qs ts a)) (λ cs ok f. balance-stays ts cs f)
+  pub balance-sound : (ts : List Task) → check f ts ≡ Accepted → Sound f ts (balance ts)
+  balance-sound ts a = sound-by ts a (balance ts) (balance-shrunk (check-live f ts a)) (λ cs ok g. balance-stays ts cs g)
 
-  pub step-sound : (r : ℕ) (q : Resource) → ResourceAt q r 0 qs → (ts : List Task) → check qs ts ≡ Accepted → Sound sense qs ts (resourceStep sense r (limitOn q) ts)
-  step-sound r q at ts a =
-      sound-by ts a (resourceStep sense r (limitOn q) ts) (resource-step-shrunk sense r (limitOn q) ts)
-      (λ cs ok f. resource-step-stays sense r (limitOn q) ts cs f (allowed-holds sense qs cs ok r q at))
+  pub step-sound : (r : ℕ) → r < resourceCount f → (ts : List Task) → check f ts ≡ Accepted → Sound f ts (resourceStep f r ts)
+  step-sound r l ts a =
+      sound-by ts a (resourceStep f r ts) (resource-step-shrunk f r ts)
+      (λ cs ok g. resource-step-stays f r ts cs g (allowed-holds f cs ok r l))
 
   -- one after another
-  pub then-sound : (ts : List Task) (o : Outcome) (k : List Task → Outcome) → Sound sense qs ts o → ((us : List Task) → check qs us ≡ Accepted → Sound sense qs us (k us)) → Sound sense qs ts (then o k)
-  then-sound ts NoPlan k h f = h
-  then-sound ts (Plan us) k h f = carry (k us) (f us (h .accepted))
+  pub then-sound : (ts : List Task) (o : Outcome) (k : List Task → Outcome) → Sound f ts o → ((us : List Task) → check f us ≡ Accepted → Sound f us (k us)) → Sound f ts (then o k)
+  then-sound ts NoPlan k h g = h
+  then-sound ts (Plan us) k h g = carry (k us) (g us (h .accepted))
     where
-      carry : (o : Outcome) → Sound sense qs us o → Sound sense qs ts o
-      carry NoPlan g = nothing-then h g
-      carry (Plan vs) g = keeps-then h g
+      carry : (o : Outcome) → Sound f us o → Sound f ts o
+      carry NoPlan l = nothing-then h l
+      carry (Plan vs) l = keeps-then h l
 
-  step-of-sound : (k j : ℕ) (ps : List Resource) → ((r : ℕ) (q : Resource) → ResourceAt q r k ps → ResourceAt q r 0 qs) → (ts : List Task) → check qs ts ≡ Accepted → Sound sense qs ts (stepOf sense k j ps ts)
-  unfolding stepOf
-  step-of-sound k j [] f ts a = nothing-sound ts a
-  step-of-sound k zero (q ∷ ps) f ts a = step-sound k q (f k q first) ts a
-  step-of-sound k (suc j) (q ∷ ps) f ts a = step-of-sound (suc k) j ps (λ r p at. f r p (next at)) ts a
-
-  pub move-sound : (m : Move) (ts : List Task) → check qs ts ≡ Accepted → Sound sense qs ts (move sense qs m ts)
+  pub move-sound : (m : Move) (ts : List Task) → check f ts ≡ Accepted → Sound f ts (move f m ts)
   unfolding move
   move-sound Balance ts a = balance-sound ts a
-  move-sound (StepOf place) ts a = step-of-sound 0 place qs (λ r q at. at) ts a
+  move-sound (StepOf r) ts a =
+      if-case (Sound f ts) (isPlace f r) (resourceStep f r ts) (Plan ts) (λ e. step-sound r (ltb-true r (resourceCount f) e) ts a) (λ e. nothing-sound ts a)
 
   -- any sequence, of any length and order
-  pub play-sound : (ms : List Move) (ts : List Task) → check qs ts ≡ Accepted → Sound sense qs ts (play sense qs ms ts)
+  pub play-sound : (ms : List Move) (ts : List Task) → check f ts ≡ Accepted → Sound f ts (play f ms ts)
   unfolding play
   play-sound [] ts a = nothing-sound ts a
-  play-sound (m ∷ ms) ts a = then-sound ts (move sense qs m ts) (play sense qs ms) (move-sound m ts a) (play-sound ms)
+  play-sound (m ∷ ms) ts a = then-sound ts (move f m ts) (play f ms) (move-sound m ts a) (play-sound ms)

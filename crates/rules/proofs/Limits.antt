@@ -1,20 +1,23 @@
 -- The limit of a resource on every day: the page's test runs over the days that a choice covers itself, and those are all days of
 -- all whole numbers on which the limit counts.
 use mathlib.Core.Path.{_≡_}
-use Prim.Native.Nat.{ℕ, suc}
-use mathlib.Core.List.{List, _∷_}
+use Prim.Native.Nat.{ℕ, _<_}
+use mathlib.Core.List.{List}
 use mathlib.Core.Bool.{Bool, true}
 use lib.IntN.{ℤ, predℤ}
 use lib.Dec.{eqb}
 use Rattle.integers.specs.Tests.{all, any}
 use Rattle.integers.specs.Hull.{range}
 use Rattle.integers.proofs.Z.{z, predz}
-use Rattle.integers.proofs.Tests.{and-first, and-second, implies-in, implies-out, all-any, all-members}
-use Rattle.integers.proofs.Hull.{Within, values-in, values-out}
-use Rattle.plan.specs.declared.Resource.{Resource}
+use Rattle.integers.proofs.Tests.{and-first, and-second, implies-in, implies-out, all-any}
+use Rattle.integers.proofs.Lists.{in-any, all-members}
+use Rattle.integers.proofs.Hull.{values-in, values-out}
+use Rattle.integers.specs.Ends.{Within}
 use Rattle.plan.specs.declared.Sense.{Sense}
 use Rattle.plan.proofs.Sets.{eqb-true, eqb-in}
-use Rattle.rules.specs.Allowed.{Choice, covers, coveredDays, level, meets, limitOn, holds, holdsFrom, joined, allowed}
+use Rattle.rules.specs.Frame.{Frame, resourceCount, places, limitOn}
+use Rattle.rules.specs.Allowed.{Choice, covers, coveredDays, level, meets, holds, joined, allowed}
+use Rattle.rules.proofs.Places.{all-places}
 use Rattle.rules.proofs.Inside.{Covers, covers-is, covers-in}
 
 -- on each day that some task covers on r, the heights there meet the limit
@@ -44,25 +47,15 @@ module _ (sense : Sense) (r : ℕ) (limit : ℤ → ℤ) (cs : List Choice) wher
       all-members _ cs λ c m.
       implies-in (eqb (c .resource) r) _ λ e.
       values-in (λ i. meets sense (limit i) (level r i cs)) (range (c .origin) (predℤ (c .end))) λ i w.
-      h i (m (covers r i) (covers-in r i c (within-covered i c e w)))
+      h i (in-any (covers r i) m (covers-in r i c (within-covered i c e w)))
 
--- counted from k, place r of the list is resource q
-pub data ResourceAt (q : Resource) (r : ℕ) : ℕ → List Resource → Type 0 where
-  first : {qs : List Resource} → ResourceAt q r r (q ∷ qs)
-  next : {p : Resource} {k : ℕ} {qs : List Resource} → ResourceAt q r (suc k) qs → ResourceAt q r k (p ∷ qs)
-
-holds-at : (sense : Sense) (q : Resource) (r k : ℕ) (qs : List Resource) (cs : List Choice) → ResourceAt q r k qs → holdsFrom sense k qs cs ≡ true → holds sense r (limitOn q) cs ≡ true
-unfolding holdsFrom
-holds-at sense q r k qs cs (first {qs = ps}) h = and-first (holds sense r (limitOn q) cs) (holdsFrom sense (suc r) ps cs) h
-holds-at sense q r k qs cs (next {p} {k = n} {qs = ps} a) h =
-    holds-at sense q r (suc n) ps cs a (and-second (holds sense n (limitOn p) cs) (holdsFrom sense (suc n) ps cs) h)
-
-pub allowed-joined : (sense : Sense) (qs : List Resource) (cs : List Choice) → allowed sense qs cs ≡ true → all joined cs ≡ true
+pub allowed-joined : (f : Frame) (cs : List Choice) → allowed f cs ≡ true → all joined cs ≡ true
 unfolding allowed
-allowed-joined sense qs cs h = and-first (all joined cs) (holdsFrom sense 0 qs cs) h
+allowed-joined f cs h = and-first (all joined cs) (all (λ r. holds (f .sense) r (limitOn f r) cs) (places f)) h
 
 -- an allowed plan keeps the limit of every resource of the list, on every day
-pub allowed-holds : (sense : Sense) (qs : List Resource) (cs : List Choice) → allowed sense qs cs ≡ true → (r : ℕ) (q : Resource) → ResourceAt q r 0 qs → Holds sense r (limitOn q) cs
+pub allowed-holds : (f : Frame) (cs : List Choice) → allowed f cs ≡ true → (r : ℕ) → r < resourceCount f → Holds (f .sense) r (limitOn f r) cs
 unfolding allowed
-allowed-holds sense qs cs h r q a =
-    holds-is sense r (limitOn q) cs (holds-at sense q r 0 qs cs a (and-second (all joined cs) (holdsFrom sense 0 qs cs) h))
+allowed-holds f cs h r l =
+    let p : ℕ → Bool = λ r. holds (f .sense) r (limitOn f r) cs in
+    holds-is (f .sense) r (limitOn f r) cs (all-places p f r (and-second (all joined cs) (all p (places f)) h) l)

@@ -6,21 +6,19 @@ use mathlib.Core.List.{List, [], _∷_, map}
 use mathlib.Core.Bool.{Bool, true, false}
 use lib.IntN.{ℤ, pos, negsuc, sucℤ, _+ℤ_, _-ℤ_}
 use lib.Signed.{leZ, ltZ, _≤ℤ_, _<ℤ_}
-use lib.ListN.{length}
 use Rattle.integers.specs.Tests.{and, filter}
 use Rattle.integers.specs.Hull.{Range, within, upFrom, countOf, values}
 use Rattle.integers.proofs.Z.{z, up, dn, +z, -z, sucz}
 use Rattle.integers.proofs.Tests.{by-cases, false-in, and-first, and-second, and-skip, and-follows, filter-append, filter-same, filter-none, filter-filter, filter-map}
 use Rattle.integers.proofs.Hull.{within-is, within-in, count-out, Sub}
 use Rattle.plan.specs.declared.Task.{Task}
-use Rattle.plan.specs.declared.Resource.{Resource}
-use Rattle.plan.specs.declared.Sense.{Sense}
 use Rattle.plan.specs.Days.{daysOf}
 use Rattle.plan.specs.Powers.{powersOf}
 use Rattle.plan.specs.Sets.{has}
 use Rattle.plan.proofs.Sets.{SubSet}
+use Rattle.rules.specs.Frame.{Frame, resourceCount, placesFrom}
 use Rattle.rules.specs.Allowed.{Choice, inside, insideAll, allowed}
-use Rattle.rules.specs.Listing.{cross, places, FromEnd, FromDuration, FromOrigin, fromEnd, fromDuration, fromOrigin, choice, choices, listing, plans}
+use Rattle.rules.specs.Listing.{cross, FromEnd, FromDuration, FromOrigin, fromEnd, fromDuration, fromOrigin, choice, choices, listing, plans}
 use Rattle.rules.proofs.Subs.{SubTask, Subs, subs-self}
 use Rattle.rules.proofs.Subs.Subs.{no-subs, more-subs}
 
@@ -101,11 +99,11 @@ values-sub s' s h =
     (λ l. omega (z, +z (s .low) (pos (countOf (s .high -ℤ s .low)))))))
 
 -- ---- tasks
-set-sub : (s' s n : ℕ) → SubSet s' s → filter (has s') (places 0 n) ≡ filter (has s') (filter (has s) (places 0 n))
+set-sub : (s' s n : ℕ) → SubSet s' s → filter (has s') (placesFrom 0 n) ≡ filter (has s') (filter (has s) (placesFrom 0 n))
 set-sub s' s n h =
     sym
-    (filter-filter (has s') (has s) (places 0 n)
-    ∙ filter-same (λ k. and (has s k) (has s' k)) (has s') (λ k. sym (and-follows (has s' k) (has s k) (h k))) (places 0 n))
+    (filter-filter (has s') (has s) (placesFrom 0 n)
+    ∙ filter-same (λ k. and (has s k) (has s' k)) (has s') (λ k. sym (and-follows (has s' k) (has s k) (h k))) (placesFrom 0 n))
 
 choices-sub : (n : ℕ) (u t : Task) → SubTask u t → choices n u ≡ filter (inside u) (choices n t)
 unfolding choices inside
@@ -124,8 +122,8 @@ choices-sub n u t h =
       values-sub (powersOf (u .height)) (powersOf (t .height)) (h .height),
     )
     (sym
-    (cross-filter choice (inside u) (has (u .set)) in-origin (λ r q. refl) (filter (has (t .set)) (places 0 n)) origins
-    ∙ ap (cross choice (filter (has (u .set)) (filter (has (t .set)) (places 0 n))))
+    (cross-filter choice (inside u) (has (u .set)) in-origin (λ r q. refl) (filter (has (t .set)) (placesFrom 0 n)) origins
+    ∙ ap (cross choice (filter (has (u .set)) (filter (has (t .set)) (placesFrom 0 n))))
     (cross-filter fromOrigin in-origin (within (daysOf (u .origin))) in-duration (λ o q. refl) (values (daysOf (t .origin))) durations
     ∙ ap (cross fromOrigin (filter (within (daysOf (u .origin))) (values (daysOf (t .origin)))))
     (cross-filter fromDuration in-duration (within (daysOf (u .duration))) in-end (λ d q. refl) (values (daysOf (t .duration))) ends
@@ -141,11 +139,11 @@ listing-sub n (more-subs {u} {t} {us} {ts} h f) =
 
 -- ---- the allowed plans
 -- an allowed plan inside the old ranges is inside the new ones: the allowed plans stay, in the same order
-pub plans-kept : (sense : Sense) (qs : List Resource) (us ts : List Task) → Subs us ts → ((cs : List Choice) → allowed sense qs cs ≡ true → insideAll ts cs ≡ true → insideAll us cs ≡ true) → plans sense qs us ≡ plans sense qs ts
+pub plans-kept : (f : Frame) (us ts : List Task) → Subs us ts → ((cs : List Choice) → allowed f cs ≡ true → insideAll ts cs ≡ true → insideAll us cs ≡ true) → plans f us ≡ plans f ts
 unfolding plans
-plans-kept sense qs us ts h k =
-    let n = length qs in
-    let p = allowed sense qs in
+plans-kept f us ts h k =
+    let n = resourceCount f in
+    let p = allowed f in
     let l = listing n ts in
     let self : l ≡ filter (insideAll ts) l = listing-sub n (subs-self ts) in
     let old : filter p l ≡ filter (λ cs. and (insideAll ts cs) (p cs)) l = ap (filter p) self ∙ filter-filter p (insideAll ts) l in
@@ -156,11 +154,11 @@ plans-kept sense qs us ts h k =
     new ∙ filter-same _ _ (λ cs. and-skip (insideAll ts cs) (insideAll us cs) (p cs) (λ a b. k cs b a)) l ∙ sym old
 
 -- where no allowed plan is inside, there is none
-pub plans-none : (sense : Sense) (qs : List Resource) (ts : List Task) → ((cs : List Choice) → allowed sense qs cs ≡ true → insideAll ts cs ≡ true → ⊥) → plans sense qs ts ≡ []
+pub plans-none : (f : Frame) (ts : List Task) → ((cs : List Choice) → allowed f cs ≡ true → insideAll ts cs ≡ true → ⊥) → plans f ts ≡ []
 unfolding plans
-plans-none sense qs ts k =
-    let p = allowed sense qs in
-    let l = listing (length qs) ts in
-    ap (filter p) (listing-sub (length qs) (subs-self ts)) ∙ filter-filter p (insideAll ts) l
+plans-none f ts k =
+    let p = allowed f in
+    let l = listing (resourceCount f) ts in
+    ap (filter p) (listing-sub (resourceCount f) (subs-self ts)) ∙ filter-filter p (insideAll ts) l
     ∙ filter-none (λ cs. and (insideAll ts cs) (p cs))
     (λ cs. false-in (and (insideAll ts cs) (p cs)) (λ e. k cs (and-second (insideAll ts cs) (p cs) e) (and-first (insideAll ts cs) (p cs) e))) l

@@ -1,20 +1,19 @@
 -- A task of which something is left: no range and no set is empty. The entry checks say so of every task of a plan.
 use mathlib.Core.Path.{_≡_}
-use Prim.Native.Nat.{ℕ, _^_}
-use mathlib.Core.List.{List, [], _∷_, map}
-use mathlib.Core.Bool.{true, false, not}
-use lib.IntN.{ℤ}
-use lib.Signed.{leZ, _≤ℤ_}
-use lib.Dec.{eqb, ltb}
-use Rattle.integers.specs.Tests.{and}
+use Prim.Native.Nat.{ℕ}
+use native.Mathlib.Omega.{arith}
+use mathlib.Core.List.{List, map}
+use mathlib.Core.Bool.{false}
+use lib.Signed.{_≤ℤ_}
+use lib.Dec.{eqb}
+use borrow.Author.Tests.{ne-eqb}
+use Rattle.integers.specs.Lists.{Each}
 use Rattle.integers.proofs.Z.{z, ~z}
-use Rattle.integers.proofs.Tests.{and-first, and-second, not-out}
+use Rattle.integers.proofs.Lists.{each-map}
 use Rattle.plan.specs.declared.Task.{Task}
-use Rattle.plan.specs.declared.Span.{Span}
-use Rattle.plan.specs.Days.{dayLow, dayHigh, durationLow, durationHigh, spanFits}
-use Rattle.plan.specs.Powers.{powerLow, powerHigh, powersFit, turned}
+use Rattle.plan.specs.Powers.{negatedPowers}
+use Rattle.plan.specs.Tasks.{Bounded, TaskFits}
 use Rattle.rules.specs.Step.{negated}
-use Rattle.rules.specs.Calls.{rangesFit, setFits}
 
 pub record Live (t : Task) : Type 0 where
   pub origin : t .origin .low .0 ≤ℤ t .origin .high .0
@@ -23,43 +22,20 @@ pub record Live (t : Task) : Type 0 where
   pub height : t .height .low .0 ≤ℤ t .height .high .0
   pub set : eqb (t .set) 0 ≡ false
 
-pub data Lives : List Task → Type 0 where
-  no-lives : Lives []
-  more-lives : {t : Task} {ts : List Task} → Live t → Lives ts → Lives (t ∷ ts)
-
-span-live : (a b : ℤ) (s : Span) → spanFits a b s ≡ true → s .low .0 ≤ℤ s .high .0
-unfolding spanFits
-span-live a b s h =
-    let x = leZ a (s .low .0) in
-    let y = leZ (s .low .0) (s .high .0) in
-    let w = leZ (s .high .0) b in
-    let e : y ≡ true = and-first y w (and-second x (and y w) h) in
-    omega z
+abbrev pub Lives : List Task → Type 0
+Lives ts = Each Live ts
 
 -- what passes the checks of ranges and sets is live
-pub live-fits : (n : ℕ) (t : Task) → rangesFit t ≡ true → setFits n t ≡ true → Live t
-unfolding rangesFit setFits powersFit
-live-fits n t h g =
-    let x = spanFits dayLow dayHigh (t .origin) in
-    let y = spanFits durationLow durationHigh (t .duration) in
-    let w = spanFits dayLow dayHigh (t .end) in
-    let v = powersFit (t .height) in
-    let b = leZ (t .height .low .0) (t .height .high .0) in
-    let c = leZ (t .height .high .0) powerHigh in
-    let after-origin : and y (and w v) ≡ true = and-second x (and y (and w v)) h in
-    let after-duration : and w v ≡ true = and-second y (and w v) after-origin in
-    let e : b ≡ true = and-first b c (and-second (leZ powerLow (t .height .low .0)) (and b c) (and-second w v after-duration)) in
-    record {
-      origin = span-live dayLow dayHigh (t .origin) (and-first x (and y (and w v)) h);
-      duration = span-live durationLow durationHigh (t .duration) (and-first y (and w v) after-origin);
-      end = span-live dayLow dayHigh (t .end) (and-first w v after-duration);
-      height = omega z;
-      set = not-out (eqb (t .set) 0) (and-first (not (eqb (t .set) 0)) (ltb (t .set) (2 ^ n)) g);
-    }
+pub live-bounded : (t : Task) → Bounded t → eqb (t .set) 0 ≡ false → Live t
+live-bounded t b e =
+    record { origin = b .origin .rises; duration = b .duration .rises; end = b .end .rises; height = b .height .rises; set = e }
+
+pub live-fits : (n : ℕ) (t : Task) → TaskFits n t → Live t
+live-fits n t h = let some = h .some in live-bounded t (h .ranges) (ne-eqb (t .set) 0 (omega arith))
 
 -- negation keeps tasks live
 pub live-negated : (t : Task) → Live t → Live (negated t)
-unfolding negated turned
+unfolding negated negatedPowers
 live-negated t h =
     record {
       origin = h .origin;
@@ -70,5 +46,4 @@ live-negated t h =
     }
 
 pub lives-negated : {ts : List Task} → Lives ts → Lives (map negated ts)
-lives-negated no-lives = no-lives
-lives-negated (more-lives {t} h f) = more-lives (live-negated t h) (lives-negated f)
+lives-negated h = each-map negated live-negated h

@@ -1,61 +1,65 @@
 -- "Sense at most is the same with every height and limit negated and each height's two ends swapped; it is proved once, over the
--- negation": negating twice is nothing, balance, room and the entry checks don't see it, and so a step, a pass and settling at most
--- are those at least of the negated plan, negated back, after as many passes.
+-- negation": negating twice is nothing, balance, room and the entry checks don't see it, and so a step, a pass and settling of the negated
+-- plan are those of the plan, negated, after as many passes.
 use mathlib.Core.Path.{_≡_, refl, sym, ap, ap₂, _∙_}
 use Prim.Native.Nat.{ℕ, zero, suc, _+_}
 use mathlib.Core.List.{List, [], _∷_, map}
-use mathlib.Core.Bool.{true}
+use mathlib.Core.Bool.{not}
 use lib.IntN.{ℤ, negℤ, _-ℤ_, natAbs}
-use lib.Signed.{leZ}
-use lib.ListN.{length, length-map}
+use lib.ListN.{length, getD, length-map}
 use Rattle.integers.specs.Whole.{eqZ}
 use Rattle.integers.specs.Tests.{and}
-use Rattle.integers.proofs.Z.{z, -z, ~z, leZ-in, eqZ-in, eqZ-is, negneg}
+use Rattle.integers.specs.Hull.{range, within, fits, sameRange, width}
+use Rattle.integers.proofs.Z.{z, -z, ~z, eqZ-in, eqZ-is, negneg}
 use Rattle.integers.proofs.Tests.{by-cases, same-test, and-first, and-second, and-in}
-use Rattle.plan.specs.declared.Power.{Power}
+use Rattle.integers.proofs.Hull.{within-is, within-in, fits-is, fits-in}
 use Rattle.plan.specs.declared.PowerSpan.{PowerSpan}
 use Rattle.plan.specs.declared.Task.{Task}
 use Rattle.plan.specs.declared.Resource.{Resource}
+use Rattle.plan.specs.declared.Call.{Call}
+use Rattle.plan.specs.declared.Call.the-variants.{Check, Balance, Step, Pass, Settle}
+use Rattle.plan.specs.declared.Checked.{Checked}
+use Rattle.plan.specs.declared.Refusal.the-variants.{NoSuchResource}
 use Rattle.plan.specs.declared.Narrowed.{Narrowed}
 use Rattle.plan.specs.declared.Narrowed.the-variants.{Kept, RanOut}
+use Rattle.plan.specs.declared.Sense.{Sense}
 use Rattle.plan.specs.declared.Sense.the-variants.{AtMost, AtLeast}
 use Rattle.plan.specs.Days.{emptySpan}
-use Rattle.plan.specs.Powers.{power, powerLow, powerHigh, powersOf, powersFit, powerFits, turned}
-use Rattle.rules.specs.Allowed.{limitOn}
+use Rattle.plan.specs.Powers.{power, powerEnds, powersOf, negatedPowers}
+use Rattle.plan.specs.Tasks.{noResource}
+use Rattle.rules.specs.Frame.{Frame, resourceCount, placesFrom, places, limitOn}
 use Rattle.rules.specs.Balance.{Outcome, andThen, each, cuts, unlessEmpty, balanced, balance}
 use Rattle.rules.specs.Balance.Outcome.{NoPlan, Plan}
-use Rattle.rules.specs.Step.{negated, negatedPlan, atLeastStep, resourceStep}
-use Rattle.rules.specs.Settle.{then, stepsFrom, pass, sameRange, sameTask, sameTasks, Settled, onePassMore, unlessSame, settleWithin, settle, width, room, rooms}
+use Rattle.rules.specs.Step.{negated, negatedPlan, atLeastStep, senseStep, resourceStep}
+use Rattle.rules.specs.Settle.{then, steps, pass, sameRanges, sameTask, sameTasks, Settled, onePassMore, unlessSame, settleWithin, settle, room, rooms}
 use Rattle.rules.specs.Settle.Settled.{Refused, After, Unsettled}
-use Rattle.rules.specs.Calls.{repeats, limits, rangesFit, setFits, tasksFit, check}
-
--- ---- the same plan, negated
-unfoldable pub negatedResource : Resource → Resource
-negatedResource q = record { id = q .id; limit = power (negℤ (q .limit .0)) }
+use Rattle.rules.specs.Calls.{orElse, refuseIf, repeats, limits, rangesFit, setFits, tasksFit, check, Result, unlessRefused, stepped, settled, placedIn, answered, callOf}
+use Rattle.rules.specs.Negation.{opposite, negatedResource, negatedFrame, negatedSettled, negatedResult}
 
 abbrev pub negatedTask : Narrowed → Narrowed
 negatedTask (Kept t) = Kept (negated t)
 negatedTask (RanOut v) = RanOut v
 
-abbrev pub negatedSettled : Settled → Settled
-negatedSettled Refused = Refused
-negatedSettled (After n ts) = After n (map negated ts)
-negatedSettled Unsettled = Unsettled
-
 -- ---- twice is nothing
-pub turned-back : (s : PowerSpan) → turned (turned s) ≡ s
-unfolding turned
-turned-back s = ap₂ (λ (x y : ℤ). record { low = power x; high = power y }) (negneg (s .low .0)) (negneg (s .high .0))
+pub powers-back : (s : PowerSpan) → negatedPowers (negatedPowers s) ≡ s
+unfolding negatedPowers
+powers-back s = ap₂ (λ (x y : ℤ). record { low = power x; high = power y }) (negneg (s .low .0)) (negneg (s .high .0))
 
 pub negated-back : (t : Task) → negated (negated t) ≡ t
 unfolding negated
 negated-back t =
     ap (λ (h : PowerSpan). record { set = t .set; origin = t .origin; duration = t .duration; end = t .end; height = h })
-    (turned-back (t .height))
+    (powers-back (t .height))
 
 pub negateds-back : (ts : List Task) → map negated (map negated ts) ≡ ts
 negateds-back [] = refl
 negateds-back (t ∷ ts) = ap₂ (λ (x : Task) (xs : List Task). x ∷ xs) (negated-back t) (negateds-back ts)
+
+pub resources-back : (qs : List Resource) → map negatedResource (map negatedResource qs) ≡ qs
+unfolding negatedResource
+resources-back [] = refl
+resources-back (q ∷ qs) =
+    ap₂ (λ (x : ℤ) (xs : List Resource). record { id = q .id; limit = power x } ∷ xs) (negneg (q .limit .0)) (resources-back qs)
 
 pub plan-back : (o : Outcome) → negatedPlan (negatedPlan o) ≡ o
 plan-back NoPlan = refl
@@ -92,51 +96,70 @@ pub balance-negated : (ts : List Task) → balance (map negated ts) ≡ negatedP
 unfolding balance
 balance-negated ts = each-negated balanced balanced balanced-negated ts
 
--- ---- steps and a pass
+-- ---- one step, in either sense
+sense-step-negated : (sense : Sense) (r : ℕ) (limit : ℤ → ℤ) (ts : List Task) → senseStep (opposite sense) r (λ i. negℤ (limit i)) (map negated ts) ≡ negatedPlan (senseStep sense r limit ts)
+unfolding senseStep
+sense-step-negated AtLeast r limit ts =
+    ap₂ (λ (low : ℤ → ℤ) (us : List Task). negatedPlan (atLeastStep r low us)) (λ k i. negneg (limit i) k) (negateds-back ts)
+sense-step-negated AtMost r limit ts = sym (plan-back (atLeastStep r (λ i. negℤ (limit i)) (map negated ts)))
+
+limit-negated : (qs : List Resource) (r : ℕ) → getD (map negatedResource qs) r noResource .limit .0 ≡ negℤ (getD qs r noResource .limit .0)
+unfolding negatedResource noResource
+limit-negated [] r = refl
+limit-negated (q ∷ qs) zero = refl
+limit-negated (q ∷ qs) (suc r) = limit-negated qs r
+
+pub step-negated : (f : Frame) (r : ℕ) (ts : List Task) → resourceStep (negatedFrame f) r (map negated ts) ≡ negatedPlan (resourceStep f r ts)
+unfolding resourceStep limitOn
+step-negated f r ts =
+    ap (λ (limit : ℤ → ℤ). senseStep (opposite (f .sense)) r limit (map negated ts)) (λ k i. limit-negated (f .resources) r k)
+    ∙ sense-step-negated (f .sense) r (limitOn f r) ts
+
+-- ---- a pass
 then-negated : (o : Outcome) (k k' : List Task → Outcome) → ((us : List Task) → k (map negated us) ≡ negatedPlan (k' us)) → then (negatedPlan o) k ≡ negatedPlan (then o k')
 then-negated NoPlan k k' h = refl
 then-negated (Plan us) k k' h = h us
 
-pub steps-negated : (r : ℕ) (qs : List Resource) (ts : List Task) → stepsFrom AtMost r qs (map negated ts) ≡ negatedPlan (stepsFrom AtLeast r (map negatedResource qs) ts)
-unfolding stepsFrom resourceStep limitOn negatedResource
-steps-negated r [] ts = refl
-steps-negated r (q ∷ qs) ts =
-    ap (λ (us : List Task). then (negatedPlan (atLeastStep r (λ i. negℤ (limitOn q i)) us)) (stepsFrom AtMost (suc r) qs)) (negateds-back ts)
-    ∙ then-negated (atLeastStep r (limitOn (negatedResource q)) ts) (stepsFrom AtMost (suc r) qs) (stepsFrom AtLeast (suc r) (map negatedResource qs)) (steps-negated (suc r) qs)
+steps-negated : (f : Frame) (rs : List ℕ) (ts : List Task) → steps (negatedFrame f) rs (map negated ts) ≡ negatedPlan (steps f rs ts)
+unfolding steps
+steps-negated f [] ts = refl
+steps-negated f (r ∷ rs) ts =
+    ap (λ (o : Outcome). then o (steps (negatedFrame f) rs)) (step-negated f r ts)
+    ∙ then-negated (resourceStep f r ts) (steps (negatedFrame f) rs) (steps f rs) (steps-negated f rs)
 
-pass-turned : (qs : List Resource) (ts : List Task) → pass AtMost qs (map negated ts) ≡ negatedPlan (pass AtLeast (map negatedResource qs) ts)
+places-negated : (f : Frame) → places (negatedFrame f) ≡ places f
+unfolding places
+places-negated f = ap (placesFrom 0) (length-map (f .resources) negatedResource)
+
+pub pass-negated : (f : Frame) (ts : List Task) → pass (negatedFrame f) (map negated ts) ≡ negatedPlan (pass f ts)
 unfolding pass
-pass-turned qs ts =
-    ap (λ (o : Outcome). then o (stepsFrom AtMost 0 qs)) (balance-negated ts)
-    ∙ then-negated (balance ts) (stepsFrom AtMost 0 qs) (stepsFrom AtLeast 0 (map negatedResource qs)) (steps-negated 0 qs)
-
--- a pass at most is the pass at least of the negated plan, negated back
-pub pass-negated : (qs : List Resource) (ts : List Task) → pass AtMost qs ts ≡ negatedPlan (pass AtLeast (map negatedResource qs) (map negated ts))
-pass-negated qs ts = ap (pass AtMost qs) (sym (negateds-back ts)) ∙ pass-turned qs (map negated ts)
+pass-negated f ts =
+    ap₂ (λ (o : Outcome) (rs : List ℕ). then o (steps (negatedFrame f) rs)) (balance-negated ts) (places-negated f)
+    ∙ then-negated (balance ts) (steps (negatedFrame f) (places f)) (steps f (places f)) (steps-negated f (places f))
 
 -- ---- settling, after as many passes
-same-powers : (s u : PowerSpan) → sameRange (powersOf s) (powersOf (turned u)) ≡ sameRange (powersOf (turned s)) (powersOf u)
-unfolding sameRange turned
+same-powers : (s u : PowerSpan) → sameRange (powersOf (negatedPowers s)) (powersOf (negatedPowers u)) ≡ sameRange (powersOf s) (powersOf u)
+unfolding sameRange negatedPowers
 same-powers s u =
     let a = s .low .0 in
     let b = s .high .0 in
     let c = u .low .0 in
     let d = u .high .0 in
-    same-test (and (eqZ a (negℤ d)) (eqZ b (negℤ c))) (and (eqZ (negℤ b) c) (eqZ (negℤ a) d))
+    same-test (and (eqZ (negℤ b) (negℤ d)) (eqZ (negℤ a) (negℤ c))) (and (eqZ a c) (eqZ b d))
     (λ h.
-    let x = eqZ-is a (negℤ d) (and-first (eqZ a (negℤ d)) (eqZ b (negℤ c)) h) in
-    let y = eqZ-is b (negℤ c) (and-second (eqZ a (negℤ d)) (eqZ b (negℤ c)) h) in
-    and-in (eqZ (negℤ b) c) (eqZ (negℤ a) d) (eqZ-in (negℤ b) c (omega (z, ~z b, ~z c))) (eqZ-in (negℤ a) d (omega (z, ~z a, ~z d))))
+    let x = eqZ-is (negℤ b) (negℤ d) (and-first (eqZ (negℤ b) (negℤ d)) (eqZ (negℤ a) (negℤ c)) h) in
+    let y = eqZ-is (negℤ a) (negℤ c) (and-second (eqZ (negℤ b) (negℤ d)) (eqZ (negℤ a) (negℤ c)) h) in
+    and-in (eqZ a c) (eqZ b d) (eqZ-in a c (omega (z, ~z a, ~z c))) (eqZ-in b d (omega (z, ~z b, ~z d))))
     (λ h.
-    let x = eqZ-is (negℤ b) c (and-first (eqZ (negℤ b) c) (eqZ (negℤ a) d) h) in
-    let y = eqZ-is (negℤ a) d (and-second (eqZ (negℤ b) c) (eqZ (negℤ a) d) h) in
-    and-in (eqZ a (negℤ d)) (eqZ b (negℤ c)) (eqZ-in a (negℤ d) (omega (z, ~z a, ~z d))) (eqZ-in b (negℤ c) (omega (z, ~z b, ~z c))))
+    let x = eqZ-is a c (and-first (eqZ a c) (eqZ b d) h) in
+    let y = eqZ-is b d (and-second (eqZ a c) (eqZ b d) h) in
+    and-in (eqZ (negℤ b) (negℤ d)) (eqZ (negℤ a) (negℤ c)) (eqZ-in (negℤ b) (negℤ d) (ap negℤ y)) (eqZ-in (negℤ a) (negℤ c) (ap negℤ x)))
 
-same-task-negated : (t u : Task) → sameTask t (negated u) ≡ sameTask (negated t) u
-unfolding sameTask negated
+same-task-negated : (t u : Task) → sameTask (negated t) (negated u) ≡ sameTask t u
+unfolding sameTask sameRanges negated
 same-task-negated t u = rw (same-powers (t .height) (u .height))
 
-pub same-tasks-negated : (ts us : List Task) → sameTasks ts (map negated us) ≡ sameTasks (map negated ts) us
+pub same-tasks-negated : (ts us : List Task) → sameTasks (map negated ts) (map negated us) ≡ sameTasks ts us
 unfolding sameTasks
 same-tasks-negated [] [] = refl
 same-tasks-negated [] (u ∷ us) = refl
@@ -148,25 +171,23 @@ more-negated Refused = refl
 more-negated (After n ts) = refl
 more-negated Unsettled = refl
 
-unless-same-negated : (k k' : List Task → Settled) → ((us : List Task) → k (map negated us) ≡ negatedSettled (k' us)) → (ts : List Task) (o : Outcome) → unlessSame k ts (negatedPlan o) ≡ negatedSettled (unlessSame k' (map negated ts) o)
+unless-same-negated : (k k' : List Task → Settled) → ((us : List Task) → k (map negated us) ≡ negatedSettled (k' us)) → (ts : List Task) (o : Outcome) → unlessSame k (map negated ts) (negatedPlan o) ≡ negatedSettled (unlessSame k' ts o)
 unless-same-negated k k' h ts NoPlan = refl
 unless-same-negated k k' h ts (Plan us) =
-    by-cases (sameTasks (map negated ts) us) (λ e. rw (same-tasks-negated ts us, e))
+    by-cases (sameTasks ts us) (λ e. rw (same-tasks-negated ts us, e))
     (λ e. rw (same-tasks-negated ts us, e) (ap onePassMore (h us) ∙ more-negated (k' us)))
 
-pub settle-within-negated : (n : ℕ) (qs : List Resource) (ts : List Task) → settleWithin n AtMost qs ts ≡ negatedSettled (settleWithin n AtLeast (map negatedResource qs) (map negated ts))
+settle-within-negated : (n : ℕ) (f : Frame) (ts : List Task) → settleWithin n (negatedFrame f) (map negated ts) ≡ negatedSettled (settleWithin n f ts)
 unfolding settleWithin
-settle-within-negated zero qs ts = refl
-settle-within-negated (suc n) qs ts =
-    ap (unlessSame (settleWithin n AtMost qs) ts) (pass-negated qs ts)
-    ∙ unless-same-negated (settleWithin n AtMost qs) (settleWithin n AtLeast (map negatedResource qs))
-    (λ us. settle-within-negated n qs (map negated us) ∙ ap (λ (vs : List Task). negatedSettled (settleWithin n AtLeast (map negatedResource qs) vs)) (negateds-back us))
-    ts (pass AtLeast (map negatedResource qs) (map negated ts))
+settle-within-negated zero f ts = refl
+settle-within-negated (suc n) f ts =
+    ap (unlessSame (settleWithin n (negatedFrame f)) (map negated ts)) (pass-negated f ts)
+    ∙ unless-same-negated (settleWithin n (negatedFrame f)) (settleWithin n f) (settle-within-negated n f) ts (pass f ts)
 
 -- ---- room
-width-turned : (s : PowerSpan) → width (powersOf (turned s)) ≡ width (powersOf s)
-unfolding width turned
-width-turned s =
+width-negated : (s : PowerSpan) → width (powersOf (negatedPowers s)) ≡ width (powersOf s)
+unfolding width negatedPowers
+width-negated s =
     let a = s .low .0 in
     let b = s .high .0 in
     let e : negℤ a -ℤ negℤ b ≡ b -ℤ a = omega (z, -z (negℤ a) (negℤ b), -z b a, ~z a, ~z b) in
@@ -174,73 +195,43 @@ width-turned s =
 
 pub room-negated : (t : Task) → room (negated t) ≡ room t
 unfolding room negated
-room-negated t = rw (width-turned (t .height))
+room-negated t = rw (width-negated (t .height))
 
 pub rooms-negated : (ts : List Task) → rooms (map negated ts) ≡ rooms ts
 unfolding rooms
 rooms-negated [] = refl
 rooms-negated (t ∷ ts) = ap₂ _+_ (room-negated t) (rooms-negated ts)
 
--- settling at most is settling at least of the negated plan, negated back
-pub settle-negated : (qs : List Resource) (ts : List Task) → settle AtMost qs ts ≡ negatedSettled (settle AtLeast (map negatedResource qs) (map negated ts))
+pub settle-negated : (f : Frame) (ts : List Task) → settle (negatedFrame f) (map negated ts) ≡ negatedSettled (settle f ts)
 unfolding settle
-settle-negated qs ts =
-    settle-within-negated (suc (rooms ts)) qs ts
-    ∙ ap (λ (n : ℕ). negatedSettled (settleWithin (suc n) AtLeast (map negatedResource qs) (map negated ts))) (sym (rooms-negated ts))
+settle-negated f ts =
+    ap (λ (n : ℕ). settleWithin (suc n) (negatedFrame f) (map negated ts)) (rooms-negated ts) ∙ settle-within-negated (suc (rooms ts)) f ts
 
 -- ---- the entry checks: the ends are symmetric
-pub powers-fit-turned : (s : PowerSpan) → powersFit (turned s) ≡ powersFit s
-unfolding powersFit turned
-powers-fit-turned s =
+powers-fit-negated : (s : PowerSpan) → fits powerEnds (powersOf (negatedPowers s)) ≡ fits powerEnds (powersOf s)
+unfolding negatedPowers
+powers-fit-negated s =
     let a = s .low .0 in
     let b = s .high .0 in
-    let x = leZ powerLow a in
-    let y = leZ a b in
-    let w = leZ b powerHigh in
-    let x' = leZ powerLow (negℤ b) in
-    let y' = leZ (negℤ b) (negℤ a) in
-    let w' = leZ (negℤ a) powerHigh in
-    same-test (and x' (and y' w')) (and x (and y w))
-    (λ h.
-    let p : x' ≡ true = and-first x' (and y' w') h in
-    let q : y' ≡ true = and-first y' w' (and-second x' (and y' w') h) in
-    let r : w' ≡ true = and-second y' w' (and-second x' (and y' w') h) in
-    and-in x (and y w) (leZ-in powerLow a (omega (z, ~z a)))
-    (and-in y w (leZ-in a b (omega (z, ~z a, ~z b))) (leZ-in b powerHigh (omega (z, ~z b)))))
-    (λ h.
-    let p : x ≡ true = and-first x (and y w) h in
-    let q : y ≡ true = and-first y w (and-second x (and y w) h) in
-    let r : w ≡ true = and-second y w (and-second x (and y w) h) in
-    and-in x' (and y' w') (leZ-in powerLow (negℤ b) (omega (z, ~z b)))
-    (and-in y' w' (leZ-in (negℤ b) (negℤ a) (omega (z, ~z a, ~z b))) (leZ-in (negℤ a) powerHigh (omega (z, ~z a)))))
+    same-test (fits powerEnds (range (negℤ b) (negℤ a))) (fits powerEnds (range a b))
+    (λ h. let p = fits-is powerEnds (range (negℤ b) (negℤ a)) h in fits-in powerEnds (range a b) (omega (z, ~z a, ~z b)))
+    (λ h. let p = fits-is powerEnds (range a b) h in fits-in powerEnds (range (negℤ b) (negℤ a)) (omega (z, ~z a, ~z b)))
 
-pub power-fits-negated : (p : Power) → powerFits (power (negℤ (p .0))) ≡ powerFits p
-unfolding powerFits
-power-fits-negated p =
-    let a = p .0 in
-    let x = leZ powerLow a in
-    let w = leZ a powerHigh in
-    let x' = leZ powerLow (negℤ a) in
-    let w' = leZ (negℤ a) powerHigh in
-    same-test (and x' w') (and x w)
-    (λ h.
-    let p : x' ≡ true = and-first x' w' h in
-    let r : w' ≡ true = and-second x' w' h in
-    and-in x w (leZ-in powerLow a (omega (z, ~z a))) (leZ-in a powerHigh (omega (z, ~z a))))
-    (λ h.
-    let p : x ≡ true = and-first x w h in
-    let r : w ≡ true = and-second x w h in
-    and-in x' w' (leZ-in powerLow (negℤ a) (omega (z, ~z a))) (leZ-in (negℤ a) powerHigh (omega (z, ~z a))))
+power-fits-negated : (x : ℤ) → within powerEnds (negℤ x) ≡ within powerEnds x
+power-fits-negated x =
+    same-test (within powerEnds (negℤ x)) (within powerEnds x)
+    (λ h. let p = within-is powerEnds (negℤ x) h in within-in powerEnds x (omega (z, ~z x)))
+    (λ h. let p = within-is powerEnds x h in within-in powerEnds (negℤ x) (omega (z, ~z x)))
 
-pub ranges-fit-negated : (t : Task) → rangesFit (negated t) ≡ rangesFit t
+ranges-fit-negated : (t : Task) → rangesFit (negated t) ≡ rangesFit t
 unfolding rangesFit negated
-ranges-fit-negated t = rw (powers-fit-turned (t .height))
+ranges-fit-negated t = rw (powers-fit-negated (t .height))
 
-pub set-fits-negated : (n : ℕ) (t : Task) → setFits n (negated t) ≡ setFits n t
+set-fits-negated : (n : ℕ) (t : Task) → setFits n (negated t) ≡ setFits n t
 unfolding setFits negated
 set-fits-negated n t = refl
 
-pub tasks-fit-negated : (n k : ℕ) (ts : List Task) → tasksFit n k (map negated ts) ≡ tasksFit n k ts
+tasks-fit-negated : (n k : ℕ) (ts : List Task) → tasksFit n k (map negated ts) ≡ tasksFit n k ts
 unfolding tasksFit
 tasks-fit-negated n k [] = refl
 tasks-fit-negated n k (t ∷ ts) = rw (ranges-fit-negated t, set-fits-negated n t, tasks-fit-negated n (suc k) ts)
@@ -253,16 +244,47 @@ repeats-negated k seen (q ∷ qs) = rw (repeats-negated (suc k) (q .id ∷ seen)
 limits-negated : (k : ℕ) (qs : List Resource) → limits k (map negatedResource qs) ≡ limits k qs
 unfolding limits negatedResource
 limits-negated k [] = refl
-limits-negated k (q ∷ qs) = rw (power-fits-negated (q .limit), limits-negated (suc k) qs)
+limits-negated k (q ∷ qs) = rw (power-fits-negated (q .limit .0), limits-negated (suc k) qs)
 
 -- the same refusal, or none
-pub check-negated : (qs : List Resource) (ts : List Task) → check (map negatedResource qs) (map negated ts) ≡ check qs ts
+pub check-negated : (f : Frame) (ts : List Task) → check (negatedFrame f) (map negated ts) ≡ check f ts
 unfolding check
-check-negated qs ts =
+check-negated f ts =
     rw (
-      length-map qs negatedResource,
+      length-map (f .resources) negatedResource,
       length-map ts negated,
-      repeats-negated 0 [] qs,
-      limits-negated 0 qs,
-      tasks-fit-negated (length qs) 0 ts,
+      repeats-negated 0 [] (f .resources),
+      limits-negated 0 (f .resources),
+      tasks-fit-negated (resourceCount f) 0 ts,
     )
+
+-- ---- the calls
+unless-refused-negated : (k : Checked) (ts : List Task) (x x' : Result) → x' ≡ negatedResult x → unlessRefused k (map negated ts) x' ≡ negatedResult (unlessRefused k ts x)
+unless-refused-negated Checked.Accepted ts x x' h = h
+unless-refused-negated (Checked.Refused e) ts x x' h = refl
+
+stepped-negated : (ts : List Task) (o : Outcome) → stepped (map negated ts) (negatedPlan o) ≡ negatedResult (stepped ts o)
+stepped-negated ts NoPlan = refl
+stepped-negated ts (Plan us) = refl
+
+settled-negated : (ts : List Task) (s : Settled) → settled (map negated ts) (negatedSettled s) ≡ negatedResult (settled ts s)
+settled-negated ts Refused = refl
+settled-negated ts (After n us) = refl
+settled-negated ts Unsettled = refl
+
+answered-negated : (c : Call) (f : Frame) (ts : List Task) → answered c (negatedFrame f) (map negated ts) ≡ negatedResult (answered c f ts)
+answered-negated Check f ts = refl
+answered-negated Balance f ts = ap (stepped (map negated ts)) (balance-negated ts) ∙ stepped-negated ts (balance ts)
+answered-negated (Step r) f ts = ap (stepped (map negated ts)) (step-negated f r ts) ∙ stepped-negated ts (resourceStep f r ts)
+answered-negated Pass f ts = ap (stepped (map negated ts)) (pass-negated f ts) ∙ stepped-negated ts (pass f ts)
+answered-negated Settle f ts = ap (settled (map negated ts)) (settle-negated f ts) ∙ settled-negated ts (settle f ts)
+
+pub call-negated : (c : Call) (f : Frame) (ts : List Task) → callOf c (negatedFrame f) (map negated ts) ≡ negatedResult (callOf c f ts)
+unfolding callOf
+call-negated c f ts =
+    rw (check-negated f ts, length-map (f .resources) negatedResource)
+    (unless-refused-negated (orElse (check f ts) (refuseIf (not (placedIn (resourceCount f) c)) NoSuchResource)) ts (answered c f ts) _ (answered-negated c f ts))
+
+-- twice is nothing
+pub result-back : (x : Result) → negatedResult (negatedResult x) ≡ x
+result-back x = ap (λ (ts : List Task). record { answer = x .answer; tasks = ts }) (negateds-back (x .tasks))

@@ -13,8 +13,9 @@ use Rattle.integers.proofs.Tests.{clash, by-cases, false-in, and-first, and-sec
 use Rattle.plan.specs.declared.Task.{Task}
 use Rattle.plan.specs.Sets.{has}
 use Rattle.plan.proofs.Sets.{has-alone, alone-only}
+use Rattle.rules.specs.Frame.{placesFrom}
 use Rattle.rules.specs.Allowed.{Choice, inside, insideAll}
-use Rattle.rules.specs.Listing.{cross, places, choices, listing}
+use Rattle.rules.specs.Listing.{cross, choices, listing}
 use Rattle.rules.specs.Fixed.{fixed}
 use Rattle.rules.proofs.Inside.{Inside, inside-is}
 use Rattle.rules.proofs.Subs.{SubTask, Subs}
@@ -31,30 +32,30 @@ values-one : (v : ℤ) → values (range v v) ≡ v ∷ []
 unfolding values upFrom countOf
 values-one v = let e : v -ℤ v ≡ pos 0 = omega (z, -z v v) in rw e
 
-places-past : (r n k : ℕ) → r < k → filter (has (2 ^ r)) (places k n) ≡ []
-unfolding filter places
-places-past r zero k h = refl
-places-past r (suc n) k h =
-    rw (false-in (has (2 ^ r) k) (λ e. let q = alone-only r k e in omega arith)) (places-past r n (suc k) (omega arith))
+placesFrom-past : (r n k : ℕ) → r < k → filter (has (2 ^ r)) (placesFrom k n) ≡ []
+unfolding filter placesFrom
+placesFrom-past r zero k h = refl
+placesFrom-past r (suc n) k h =
+    rw (false-in (has (2 ^ r) k) (λ e. let q = alone-only r k e in omega arith)) (placesFrom-past r n (suc k) (omega arith))
 
-places-one : (r n k : ℕ) → k ≤ r → r < k + n → filter (has (2 ^ r)) (places k n) ≡ r ∷ []
-unfolding filter places
-places-one r zero k h g = absurd (omega arith)
-places-one r (suc n) k h g =
+placesFrom-one : (r n k : ℕ) → k ≤ r → r < k + n → filter (has (2 ^ r)) (placesFrom k n) ≡ r ∷ []
+unfolding filter placesFrom
+placesFrom-one r zero k h g = absurd (omega arith)
+placesFrom-one r (suc n) k h g =
     by-cases (ltb k r)
     (λ e.
     let l = ltb→lt k r (subst T (sym e) tt) in
-    rw (false-in (has (2 ^ r) k) (λ b. let q = alone-only r k b in omega arith)) (places-one r n (suc k) (omega arith) (omega arith)))
+    rw (false-in (has (2 ^ r) k) (λ b. let q = alone-only r k b in omega arith)) (placesFrom-one r n (suc k) (omega arith) (omega arith)))
     (λ e.
     let l = nltb→le k r (subst (λ x. T (not x)) (sym e) tt) in
     let q : k ≡ r = omega arith in
-    rw (subst (λ x. has (2 ^ r) x ≡ true) (sym q) (has-alone r), places-past r n (suc k) (omega arith)) (ap (λ (x : ℕ). x ∷ []) q))
+    rw (subst (λ x. has (2 ^ r) x ≡ true) (sym q) (has-alone r), placesFrom-past r n (suc k) (omega arith)) (ap (λ (x : ℕ). x ∷ []) q))
 
 choices-one : (n : ℕ) (c : Choice) → c .resource < n → choices n (fixed c) ≡ c ∷ []
 unfolding choices cross
 choices-one n c h =
     rw (
-      places-one (c .resource) n 0 (omega arith) (omega arith),
+      placesFrom-one (c .resource) n 0 (omega arith) (omega arith),
       values-one (c .origin),
       values-one (c .duration),
       values-one (c .end),

@@ -1,42 +1,22 @@
 -- A pass is a sequence of steps, settling is passes in a row: so what holds of sequences holds of both.
 use mathlib.Core.Path.{_≡_, refl, sym, ap, _∙_, subst}
-use Prim.Native.Nat.{ℕ, zero, suc, _+_}
+use Prim.Native.Nat.{ℕ, zero, suc, _+_, _≤_, _<_}
+use borrow.Author.Tests.{lt-ltb}
 use native.Mathlib.Omega.{arith}
 use mathlib.Core.List.{List, [], _∷_, _++_, map}
-use lib.ListN.{length}
 use Rattle.integers.proofs.Tests.{if-case}
 use Rattle.plan.specs.declared.Task.{Task}
-use Rattle.plan.specs.declared.Resource.{Resource}
-use Rattle.plan.specs.declared.Sense.{Sense}
-use Rattle.rules.specs.Allowed.{limitOn}
-use Rattle.rules.specs.Listing.{places}
+use Rattle.rules.specs.Frame.{Frame, resourceCount, placesFrom, places}
 use Rattle.rules.specs.Balance.{Outcome, balance}
 use Rattle.rules.specs.Balance.Outcome.{NoPlan, Plan}
 use Rattle.rules.specs.Step.{resourceStep}
-use Rattle.rules.specs.Settle.{then, stepsFrom, pass, sameTasks, Settled, onePassMore, unlessSame, settleWithin}
+use Rattle.rules.specs.Settle.{then, steps, pass, sameTasks, Settled, onePassMore, unlessSame, settleWithin}
 use Rattle.rules.specs.Settle.Settled.{Refused, After, Unsettled}
-use Rattle.rules.specs.Moves.{Move, stepOf, move, play, passes}
+use Rattle.rules.specs.Moves.{Move, move, play, passes}
 use Rattle.rules.specs.Moves.Move.{Balance, StepOf}
 use Rattle.rules.specs.Calls.{check}
-use Rattle.rules.specs.Calls.Checked.{Accepted}
-use Rattle.rules.proofs.Limits.{ResourceAt}
-use Rattle.rules.proofs.Limits.ResourceAt.{first, next}
+use Rattle.plan.specs.declared.Checked.the-variants.{Accepted}
 use Rattle.rules.proofs.Keeps.{Keeps, Nothing, Sound, keeps-then, nothing-then, play-sound}
-
--- ---- the step of a place of the list
-step-of-place : (sense : Sense) (q : Resource) (r k : ℕ) (qs : List Resource) → ResourceAt q r k qs → (j : ℕ) × (r ≡ k + j) × ((ts : List Task) → stepOf sense k j qs ts ≡ resourceStep sense r (limitOn q) ts)
-unfolding stepOf
-step-of-place sense q r k qs first = (0, omega arith, λ ts. refl)
-step-of-place sense q r k qs (next {qs = ps} at) =
-    let e = step-of-place sense q r (suc k) ps at in
-    (suc (e .0), (let h = e .1 in omega arith), e .2)
-
-pub step-of-is : (sense : Sense) (q : Resource) (r : ℕ) (qs : List Resource) → ResourceAt q r 0 qs → (ts : List Task) → move sense qs (StepOf r) ts ≡ resourceStep sense r (limitOn q) ts
-unfolding move
-step-of-is sense q r qs at ts =
-    let e = step-of-place sense q r 0 qs at in
-    let same : e .0 ≡ r = (let h = e .1 in omega arith) in
-    subst (λ j. stepOf sense 0 j qs ts ≡ resourceStep sense r (limitOn q) ts) same (e .2 ts)
 
 -- ---- a pass
 pub then-same : (o : Outcome) (k k' : List Task → Outcome) → ((us : List Task) → k us ≡ k' us) → then o k ≡ then o k'
@@ -44,68 +24,76 @@ then-same NoPlan k k' h = refl
 then-same (Plan us) k k' h = h us
 
 -- balance, then each place
-abbrev pub onePass : ℕ → List Move
-onePass n = Balance ∷ map StepOf (places 0 n)
+abbrev pub onePass : Frame → List Move
+onePass f = Balance ∷ map StepOf (places f)
 
-pub steps-play : (sense : Sense) (qs : List Resource) (r : ℕ) (ps : List Resource) → ((k : ℕ) (q : Resource) → ResourceAt q k r ps → ResourceAt q k 0 qs) → (ts : List Task) → stepsFrom sense r ps ts ≡ play sense qs (map StepOf (places r (length ps))) ts
-unfolding stepsFrom play places
-steps-play sense qs r [] f ts = refl
-steps-play sense qs r (q ∷ ps) f ts =
-    ap (λ (o : Outcome). then o (stepsFrom sense (suc r) ps)) (sym (step-of-is sense q r qs (f r q first) ts))
-    ∙ then-same (move sense qs (StepOf r) ts) (stepsFrom sense (suc r) ps) (play sense qs (map StepOf (places (suc r) (length ps))))
-    (steps-play sense qs (suc r) ps (λ k p at. f k p (next at)))
+-- the step of a place is a move
+pub move-step : (f : Frame) (r : ℕ) → r < resourceCount f → (ts : List Task) → move f (StepOf r) ts ≡ resourceStep f r ts
+unfolding move
+move-step f r l ts = rw (lt-ltb r (resourceCount f) l)
 
-pub pass-play : (sense : Sense) (qs : List Resource) (ts : List Task) → pass sense qs ts ≡ play sense qs (onePass (length qs)) ts
-unfolding pass play move
-pass-play sense qs ts =
-    then-same (balance ts) (stepsFrom sense 0 qs) (play sense qs (map StepOf (places 0 (length qs)))) (steps-play sense qs 0 qs (λ k q at. at))
+steps-play : (f : Frame) (n k : ℕ) → k + n ≤ resourceCount f → (ts : List Task) → steps f (placesFrom k n) ts ≡ play f (map StepOf (placesFrom k n)) ts
+unfolding steps play placesFrom
+steps-play f zero k l ts = refl
+steps-play f (suc n) k l ts =
+    ap (λ (o : Outcome). then o (steps f (placesFrom (suc k) n))) (sym (move-step f k (omega arith) ts))
+    ∙ then-same (move f (StepOf k) ts) (steps f (placesFrom (suc k) n)) (play f (map StepOf (placesFrom (suc k) n))) (steps-play f n (suc k) (omega arith))
 
-pub pass-sound : (sense : Sense) (qs : List Resource) (ts : List Task) → check qs ts ≡ Accepted → Sound sense qs ts (pass sense qs ts)
-pass-sound sense qs ts a = subst (Sound sense qs ts) (sym (pass-play sense qs ts)) (play-sound sense qs (onePass (length qs)) ts a)
+pub steps-sound : (f : Frame) (ts : List Task) → check f ts ≡ Accepted → Sound f ts (steps f (places f) ts)
+unfolding places
+steps-sound f ts a = subst (Sound f ts) (sym (steps-play f (resourceCount f) 0 (omega arith) ts)) (play-sound f (map StepOf (places f)) ts a)
+
+pub pass-play : (f : Frame) (ts : List Task) → pass f ts ≡ play f (onePass f) ts
+unfolding pass play move places
+pass-play f ts =
+    then-same (balance ts) (steps f (places f)) (play f (map StepOf (places f))) (steps-play f (resourceCount f) 0 (omega arith))
+
+pub pass-sound : (f : Frame) (ts : List Task) → check f ts ≡ Accepted → Sound f ts (pass f ts)
+pass-sound f ts a = subst (Sound f ts) (sym (pass-play f ts)) (play-sound f (onePass f) ts a)
 
 -- ---- passes in a row
-play-append : (sense : Sense) (qs : List Resource) (ms ns : List Move) (ts : List Task) → play sense qs (ms ++ ns) ts ≡ then (play sense qs ms ts) (play sense qs ns)
+play-append : (f : Frame) (ms ns : List Move) (ts : List Task) → play f (ms ++ ns) ts ≡ then (play f ms ts) (play f ns)
 unfolding play
-play-append sense qs [] ns ts = refl
-play-append sense qs (m ∷ ms) ns ts =
-    then-same (move sense qs m ts) (play sense qs (ms ++ ns)) (λ us. then (play sense qs ms us) (play sense qs ns)) (play-append sense qs ms ns)
-    ∙ sym (then-then (move sense qs m ts))
+play-append f [] ns ts = refl
+play-append f (m ∷ ms) ns ts =
+    then-same (move f m ts) (play f (ms ++ ns)) (λ us. then (play f ms us) (play f ns)) (play-append f ms ns)
+    ∙ sym (then-then (move f m ts))
   where
-    then-then : (o : Outcome) → then (then o (play sense qs ms)) (play sense qs ns) ≡ then o (λ us. then (play sense qs ms us) (play sense qs ns))
+    then-then : (o : Outcome) → then (then o (play f ms)) (play f ns) ≡ then o (λ us. then (play f ms us) (play f ns))
     then-then NoPlan = refl
     then-then (Plan us) = refl
 
-abbrev pub manyPasses : ℕ → ℕ → List Move
-manyPasses zero n = []
-manyPasses (suc k) n = onePass n ++ manyPasses k n
+abbrev pub manyPasses : ℕ → Frame → List Move
+manyPasses zero f = []
+manyPasses (suc k) f = onePass f ++ manyPasses k f
 
-pub passes-play : (k : ℕ) (sense : Sense) (qs : List Resource) (ts : List Task) → passes k sense qs ts ≡ play sense qs (manyPasses k (length qs)) ts
+pub passes-play : (k : ℕ) (f : Frame) (ts : List Task) → passes k f ts ≡ play f (manyPasses k f) ts
 unfolding passes play
-passes-play zero sense qs ts = refl
-passes-play (suc k) sense qs ts =
-    then-same (pass sense qs ts) (passes k sense qs) (play sense qs (manyPasses k (length qs))) (passes-play k sense qs)
-    ∙ ap (λ (o : Outcome). then o (play sense qs (manyPasses k (length qs)))) (pass-play sense qs ts)
-    ∙ sym (play-append sense qs (onePass (length qs)) (manyPasses k (length qs)) ts)
+passes-play zero f ts = refl
+passes-play (suc k) f ts =
+    then-same (pass f ts) (passes k f) (play f (manyPasses k f)) (passes-play k f)
+    ∙ ap (λ (o : Outcome). then o (play f (manyPasses k f))) (pass-play f ts)
+    ∙ sym (play-append f (onePass f) (manyPasses k f) ts)
 
 -- ---- settling
-abbrev pub SettledSound : Sense → List Resource → List Task → Settled → Type 0
-SettledSound sense qs ts Refused = Nothing sense qs ts
-SettledSound sense qs ts (After n us) = Keeps sense qs ts us
-SettledSound sense qs ts Unsettled = Unit {0}
+abbrev pub SettledSound : Frame → List Task → Settled → Type 0
+SettledSound f ts Refused = Nothing f ts
+SettledSound f ts (After n us) = Keeps f ts us
+SettledSound f ts Unsettled = Unit {0}
 
-more-sound : (sense : Sense) (qs : List Resource) (us ts : List Task) (s : Settled) → Keeps sense qs ts us → SettledSound sense qs us s → SettledSound sense qs ts (onePassMore s)
-more-sound sense qs us ts Refused h g = nothing-then h g
-more-sound sense qs us ts (After n vs) h g = keeps-then h g
-more-sound sense qs us ts Unsettled h g = tt
+more-sound : (f : Frame) (us ts : List Task) (s : Settled) → Keeps f ts us → SettledSound f us s → SettledSound f ts (onePassMore s)
+more-sound f us ts Refused h g = nothing-then h g
+more-sound f us ts (After n vs) h g = keeps-then h g
+more-sound f us ts Unsettled h g = tt
 
-unless-same-sound : (sense : Sense) (qs : List Resource) (ts : List Task) (k : List Task → Settled) (o : Outcome) → Sound sense qs ts o → ((us : List Task) → check qs us ≡ Accepted → SettledSound sense qs us (k us)) → SettledSound sense qs ts (unlessSame k ts o)
-unless-same-sound sense qs ts k NoPlan h f = h
-unless-same-sound sense qs ts k (Plan us) h f =
-    if-case (SettledSound sense qs ts) (sameTasks ts us) (After 1 us) (onePassMore (k us)) (λ e. h)
-    (λ e. more-sound sense qs us ts (k us) h (f us (h .accepted)))
+unless-same-sound : (f : Frame) (ts : List Task) (k : List Task → Settled) (o : Outcome) → Sound f ts o → ((us : List Task) → check f us ≡ Accepted → SettledSound f us (k us)) → SettledSound f ts (unlessSame k ts o)
+unless-same-sound f ts k NoPlan h g = h
+unless-same-sound f ts k (Plan us) h g =
+    if-case (SettledSound f ts) (sameTasks ts us) (After 1 us) (onePassMore (k us)) (λ e. h)
+    (λ e. more-sound f us ts (k us) h (g us (h .accepted)))
 
-pub settle-sound : (n : ℕ) (sense : Sense) (qs : List Resource) (ts : List Task) → check qs ts ≡ Accepted → SettledSound sense qs ts (settleWithin n sense qs ts)
+pub settle-sound : (n : ℕ) (f : Frame) (ts : List Task) → check f ts ≡ Accepted → SettledSound f ts (settleWithin n f ts)
 unfolding settleWithin
-settle-sound zero sense qs ts a = tt
-settle-sound (suc n) sense qs ts a =
-    unless-same-sound sense qs ts (settleWithin n sense qs) (pass sense qs ts) (pass-sound sense qs ts a) (settle-sound n sense qs)
+settle-sound zero f ts a = tt
+settle-sound (suc n) f ts a =
+    unless-same-sound f ts (settleWithin n f) (pass f ts) (pass-sound f ts a) (settle-sound n f)

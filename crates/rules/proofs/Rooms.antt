@@ -1,50 +1,69 @@
 -- What could still be removed: it never grows, and a list with as much room as before is the same list. So a step that changes
 -- something takes room away.
 use mathlib.Core.Path.{_≡_, refl, sym, ap, ap₂, subst}
-use Prim.Native.Nat.{ℕ, _^_, _≤_, _<_}
+use Prim.Native.Nat.{_^_, _≤_, _<_}
 use native.Mathlib.Omega.{arith}
 use mathlib.Core.List.{List, [], _∷_}
 use mathlib.Core.Bool.{true, false, not}
-use lib.IntN.{ℤ, pos, negsuc, _-ℤ_, natAbs}
-use lib.Signed.{_≤ℤ_}
 use lib.Dec.{T, eqb, leb, leb→le, nleb→lt}
-use Rattle.integers.specs.Whole.{eqZ}
 use Rattle.integers.specs.Tests.{and}
-use Rattle.integers.specs.Hull.{Range}
-use Rattle.integers.proofs.Z.{z, up, -z, eqZ-in, eqZ-is}
-use Rattle.integers.proofs.Tests.{clash, by-cases, false-in, and-first, and-second}
-use Rattle.integers.proofs.Hull as hull
-use Rattle.integers.proofs.Hull.{Sub, width-le, width-same}
+use Rattle.integers.specs.Hull.{sameRange}
+use Rattle.integers.proofs.Tests.{four-is, clash, by-cases, false-in, and-first, and-second}
+use Rattle.integers.proofs.Hull.{width-le, width-same, same-range-self, same-range-is}
 use Rattle.plan.specs.declared.Task.{Task}
-use Rattle.plan.specs.declared.Resource.{Resource}
-use Rattle.plan.specs.declared.Sense.{Sense}
+use Rattle.plan.specs.Tasks.{TaskFits}
 use Rattle.plan.specs.Days.{daysOf, spanOf}
 use Rattle.plan.specs.Powers.{powersOf, powerSpanOf}
 use Rattle.plan.proofs.Sets.{eqb-in, eqb-true, size-le, size-same, size-some, some-place, sub-le}
-use Rattle.rules.specs.Balance.{balance}
-use Rattle.rules.specs.Balance.Outcome.{Plan}
-use Rattle.rules.specs.Step.{resourceStep}
-use Rattle.rules.specs.Settle.{sameRange, sameTask, sameTasks, width, room, rooms}
+use Rattle.rules.specs.Frame.{Frame}
+use Rattle.rules.specs.Settle.{sameRanges, sameTask, sameTasks, room, rooms}
 use Rattle.rules.proofs.Live.{Live, Lives}
-use Rattle.rules.proofs.Live.Lives.{no-lives, more-lives}
+use Rattle.integers.specs.Lists.{Each}
+use Rattle.integers.specs.Lists.Each.{nothing, also}
 use Rattle.rules.proofs.Subs.{SubTask, Subs}
 use Rattle.rules.proofs.Subs.Subs.{no-subs, more-subs}
-use Rattle.rules.proofs.Shrinks.{Shrunk, balance-shrunk, resource-step-shrunk}
-use Rattle.rules.proofs.Checks.{Smalls, check-live, check-small}
-use Rattle.rules.proofs.Checks.Smalls.{no-smalls, more-smalls}
+use Rattle.rules.proofs.Checks.{check-live, check-wide}
 use Rattle.rules.specs.Calls.{check}
-use Rattle.rules.specs.Calls.Checked.{Accepted}
+use Rattle.plan.specs.declared.Checked.the-variants.{Accepted}
 use Rattle.rules.proofs.Keeps.{Keeps}
 
 -- ---- the same list
-same-range-self : (s : Range) → sameRange s s ≡ true
-unfolding sameRange
-same-range-self s = rw (eqZ-in (s .low) (s .low) refl, eqZ-in (s .high) (s .high) refl)
+pub record SameRanges (a b : Task) : Type 0 where
+  pub origin : a .origin ≡ b .origin
+  pub duration : a .duration ≡ b .duration
+  pub end : a .end ≡ b .end
+  pub height : a .height ≡ b .height
 
-pub same-tasks-self : (ts : List Task) → sameTasks ts ts ≡ true
-unfolding sameTasks sameTask
-same-tasks-self [] = refl
-same-tasks-self (t ∷ ts) =
+pub same-ranges-is : (a b : Task) → sameRanges a b ≡ true → SameRanges a b
+unfolding sameRanges
+same-ranges-is a b h =
+    let o = sameRange (daysOf (a .origin)) (daysOf (b .origin)) in
+    let d = sameRange (daysOf (a .duration)) (daysOf (b .duration)) in
+    let e = sameRange (daysOf (a .end)) (daysOf (b .end)) in
+    let p = sameRange (powersOf (a .height)) (powersOf (b .height)) in
+    let q = four-is o d e p h in
+    record {
+      origin = ap spanOf (same-range-is (daysOf (a .origin)) (daysOf (b .origin)) (q .first));
+      duration = ap spanOf (same-range-is (daysOf (a .duration)) (daysOf (b .duration)) (q .second));
+      end = ap spanOf (same-range-is (daysOf (a .end)) (daysOf (b .end)) (q .third));
+      height = ap powerSpanOf (same-range-is (powersOf (a .height)) (powersOf (b .height)) (q .fourth));
+    }
+
+-- and so the task, where its set is the same too
+pub same-but-set : (a b : Task) → sameRanges a b ≡ true → a .set ≡ b .set → a ≡ b
+same-but-set a b h s =
+    let q = same-ranges-is a b h in
+    λ k. record { set = s k; origin = q .origin k; duration = q .duration k; end = q .end k; height = q .height k }
+
+pub same-task-is : (a b : Task) → sameTask a b ≡ true → a ≡ b
+unfolding sameTask
+same-task-is a b h =
+    let s = eqb (a .set) (b .set) in
+    same-but-set a b (and-second s (sameRanges a b) h) (eqb-true (a .set) (b .set) (and-first s (sameRanges a b) h))
+
+pub same-task-self : (t : Task) → sameTask t t ≡ true
+unfolding sameTask sameRanges
+same-task-self t =
     rw (
       eqb-in (t .set) (t .set) refl,
       same-range-self (daysOf (t .origin)),
@@ -52,31 +71,11 @@ same-tasks-self (t ∷ ts) =
       same-range-self (daysOf (t .end)),
       same-range-self (powersOf (t .height)),
     )
-    (same-tasks-self ts)
 
-same-range-is : (a b : Range) → sameRange a b ≡ true → a ≡ b
-unfolding sameRange
-same-range-is a b h =
-    ap₂ (λ (x y : ℤ). record { low = x; high = y }) (eqZ-is (a .low) (b .low) (and-first (eqZ (a .low) (b .low)) (eqZ (a .high) (b .high)) h))
-    (eqZ-is (a .high) (b .high) (and-second (eqZ (a .low) (b .low)) (eqZ (a .high) (b .high)) h))
-
-pub same-task-is : (a b : Task) → sameTask a b ≡ true → a ≡ b
-unfolding sameTask
-same-task-is a b h =
-    let s = eqb (a .set) (b .set) in
-    let o = sameRange (daysOf (a .origin)) (daysOf (b .origin)) in
-    let d = sameRange (daysOf (a .duration)) (daysOf (b .duration)) in
-    let e = sameRange (daysOf (a .end)) (daysOf (b .end)) in
-    let p = sameRange (powersOf (a .height)) (powersOf (b .height)) in
-    let after-set : and o (and d (and e p)) ≡ true = and-second s (and o (and d (and e p))) h in
-    let after-origin : and d (and e p) ≡ true = and-second o (and d (and e p)) after-set in
-    let after-duration : and e p ≡ true = and-second d (and e p) after-origin in
-    let same-set = eqb-true (a .set) (b .set) (and-first s (and o (and d (and e p))) h) in
-    let same-origin = same-range-is (daysOf (a .origin)) (daysOf (b .origin)) (and-first o (and d (and e p)) after-set) in
-    let same-duration = same-range-is (daysOf (a .duration)) (daysOf (b .duration)) (and-first d (and e p) after-origin) in
-    let same-end = same-range-is (daysOf (a .end)) (daysOf (b .end)) (and-first e p after-duration) in
-    let same-height = same-range-is (powersOf (a .height)) (powersOf (b .height)) (and-second e p after-duration) in
-    λ k. record { set = same-set k; origin = spanOf (same-origin k); duration = spanOf (same-duration k); end = spanOf (same-end k); height = powerSpanOf (same-height k) }
+pub same-tasks-self : (ts : List Task) → sameTasks ts ts ≡ true
+unfolding sameTasks
+same-tasks-self [] = refl
+same-tasks-self (t ∷ ts) = rw (same-task-self t) (same-tasks-self ts)
 
 pub same-tasks-is : (ts us : List Task) → sameTasks ts us ≡ true → ts ≡ us
 unfolding sameTasks
@@ -88,71 +87,50 @@ same-tasks-is (t ∷ ts) (u ∷ us) h =
     (same-tasks-is ts us (and-second (sameTask t u) (sameTasks ts us) h))
 
 -- ---- room
-abs-up : (d : ℤ) → pos 0 ≤ℤ d → natAbs d ≡ up d
-abs-up (pos n) h = refl
-abs-up (negsuc n) h = absurd (omega z)
-
-width-is : (s : Range) → s .low ≤ℤ s .high → width s ≡ hull.width s
-unfolding width hull.width
-width-is s h = abs-up (s .high -ℤ s .low) (omega (z, -z (s .high) (s .low)))
-
-range-le : (s' s : Range) → Sub s' s → s' .low ≤ℤ s' .high → width s' ≤ width s
-range-le s' s h l =
-    let a = width-is s' l in
-    let b = width-is s (omega z) in
-    let c = width-le s' s h l in
-    omega arith
-
-range-same : (s' s : Range) → Sub s' s → s' .low ≤ℤ s' .high → width s ≤ width s' → s' ≡ s
-range-same s' s h l g =
-    let a = width-is s' l in
-    let b = width-is s (omega z) in
-    width-same s' s h l (omega arith)
-
 pub room-le : (u t : Task) → SubTask u t → Live u → room u ≤ room t
 unfolding room
 room-le u t h l =
-    let a = range-le (daysOf (u .origin)) (daysOf (t .origin)) (h .origin) (l .origin) in
-    let b = range-le (daysOf (u .duration)) (daysOf (t .duration)) (h .duration) (l .duration) in
-    let c = range-le (daysOf (u .end)) (daysOf (t .end)) (h .end) (l .end) in
-    let d = range-le (powersOf (u .height)) (powersOf (t .height)) (h .height) (l .height) in
+    let a = width-le (daysOf (u .origin)) (daysOf (t .origin)) (h .origin) (l .origin) in
+    let b = width-le (daysOf (u .duration)) (daysOf (t .duration)) (h .duration) (l .duration) in
+    let c = width-le (daysOf (u .end)) (daysOf (t .end)) (h .end) (l .end) in
+    let d = width-le (powersOf (u .height)) (powersOf (t .height)) (h .height) (l .height) in
     let e = size-le 64 (u .set) (t .set) (h .set) in
     omega arith
 
 pub room-same : (u t : Task) → SubTask u t → Live u → t .set < 2 ^ 64 → room t ≤ room u → u ≡ t
 unfolding room
 room-same u t h l q g =
-    let a = range-le (daysOf (u .origin)) (daysOf (t .origin)) (h .origin) (l .origin) in
-    let b = range-le (daysOf (u .duration)) (daysOf (t .duration)) (h .duration) (l .duration) in
-    let c = range-le (daysOf (u .end)) (daysOf (t .end)) (h .end) (l .end) in
-    let d = range-le (powersOf (u .height)) (powersOf (t .height)) (h .height) (l .height) in
+    let a = width-le (daysOf (u .origin)) (daysOf (t .origin)) (h .origin) (l .origin) in
+    let b = width-le (daysOf (u .duration)) (daysOf (t .duration)) (h .duration) (l .duration) in
+    let c = width-le (daysOf (u .end)) (daysOf (t .end)) (h .end) (l .end) in
+    let d = width-le (powersOf (u .height)) (powersOf (t .height)) (h .height) (l .height) in
     let e = size-le 64 (u .set) (t .set) (h .set) in
     let s = sub-le (u .set) (t .set) (h .set) in
     let k = some-place (u .set) (l .set) in
     let f = size-some 64 (u .set) (k .0) (omega arith) (k .1) in
-    let same-origin = range-same (daysOf (u .origin)) (daysOf (t .origin)) (h .origin) (l .origin) (omega arith) in
-    let same-duration = range-same (daysOf (u .duration)) (daysOf (t .duration)) (h .duration) (l .duration) (omega arith) in
-    let same-end = range-same (daysOf (u .end)) (daysOf (t .end)) (h .end) (l .end) (omega arith) in
-    let same-height = range-same (powersOf (u .height)) (powersOf (t .height)) (h .height) (l .height) (omega arith) in
+    let same-origin = width-same (daysOf (u .origin)) (daysOf (t .origin)) (h .origin) (l .origin) (omega arith) in
+    let same-duration = width-same (daysOf (u .duration)) (daysOf (t .duration)) (h .duration) (l .duration) (omega arith) in
+    let same-end = width-same (daysOf (u .end)) (daysOf (t .end)) (h .end) (l .end) (omega arith) in
+    let same-height = width-same (powersOf (u .height)) (powersOf (t .height)) (h .height) (l .height) (omega arith) in
     let same-set = size-same 64 (u .set) (t .set) (h .set) q (omega arith) in
     λ k. record { set = same-set k; origin = spanOf (same-origin k); duration = spanOf (same-duration k); end = spanOf (same-end k); height = powerSpanOf (same-height k) }
 
 pub rooms-le : {us ts : List Task} → Subs us ts → Lives us → rooms us ≤ rooms ts
 unfolding rooms
-rooms-le no-subs no-lives = omega arith
-rooms-le (more-subs {u} {t} h f) (more-lives l k) = let a = room-le u t h l in let b = rooms-le f k in omega arith
+rooms-le no-subs nothing = omega arith
+rooms-le (more-subs {u} {t} h f) (also l k) = let a = room-le u t h l in let b = rooms-le f k in omega arith
 
 -- a list with as much room is the list itself
-pub rooms-same : {us ts : List Task} → Subs us ts → Lives us → Smalls 64 ts → rooms ts ≤ rooms us → us ≡ ts
+pub rooms-same : {us ts : List Task} → Subs us ts → Lives us → Each (TaskFits 64) ts → rooms ts ≤ rooms us → us ≡ ts
 unfolding rooms
-rooms-same no-subs no-lives no-smalls g = refl
-rooms-same (more-subs {u} {t} h f) (more-lives l k) (more-smalls q s) g =
+rooms-same no-subs nothing nothing g = refl
+rooms-same (more-subs {u} {t} h f) (also l k) (also q s) g =
     let a = room-le u t h l in
     let b = rooms-le f k in
-    ap₂ (λ (x : Task) (xs : List Task). x ∷ xs) (room-same u t h l q (omega arith)) (rooms-same f k s (omega arith))
+    ap₂ (λ (x : Task) (xs : List Task). x ∷ xs) (room-same u t h l (q .places) (omega arith)) (rooms-same f k s (omega arith))
 
 -- a change takes room away
-pub rooms-less : {us ts : List Task} → Subs us ts → Lives us → Smalls 64 ts → sameTasks ts us ≡ false → rooms us < rooms ts
+pub rooms-less : {us ts : List Task} → Subs us ts → Lives us → Each (TaskFits 64) ts → sameTasks ts us ≡ false → rooms us < rooms ts
 rooms-less {us} {ts} h l s e =
     by-cases (leb (rooms ts) (rooms us))
     (λ b.
@@ -165,39 +143,10 @@ pub less-changed : (us ts : List Task) → rooms us < rooms ts → sameTasks ts 
 less-changed us ts h =
     false-in (sameTasks ts us) (λ e. let q : rooms ts ≡ rooms us = ap rooms (same-tasks-is ts us e) in omega arith)
 
--- ---- what one step does to the room of a list of which nothing is empty, for a loop over the steps
-pub smalls-kept : (m : ℕ) {us ts : List Task} → Subs us ts → Smalls m ts → Smalls m us
-smalls-kept m no-subs no-smalls = no-smalls
-smalls-kept m (more-subs {u} {t} h f) (more-smalls q s) =
-    more-smalls {t = u} (let a = sub-le (u .set) (t .set) (h .set) in omega arith) (smalls-kept m f s)
-
-pub record Less (ts us : List Task) : Type 0 where
-  pub inside : Subs us ts
-  pub lives : Lives us
-  pub small : Smalls 64 us
-  pub never-more : rooms us ≤ rooms ts
-  pub less : sameTasks ts us ≡ false → rooms us < rooms ts
-
-shrunk-less : {ts us : List Task} → Smalls 64 ts → Shrunk ts (Plan us) → Less ts us
-shrunk-less s h =
-    record {
-      inside = h .0;
-      lives = h .1;
-      small = smalls-kept 64 (h .0) s;
-      never-more = rooms-le (h .0) (h .1);
-      less = rooms-less (h .0) (h .1) s;
-    }
-
-pub balance-less : (ts us : List Task) → Lives ts → Smalls 64 ts → balance ts ≡ Plan us → Less ts us
-balance-less ts us l s e = shrunk-less s (subst (Shrunk ts) e (balance-shrunk l))
-
-pub step-less : (sense : Sense) (r : ℕ) (limit : ℤ → ℤ) (ts us : List Task) → Smalls 64 ts → resourceStep sense r limit ts ≡ Plan us → Less ts us
-step-less sense r limit ts us s e = shrunk-less s (subst (Shrunk ts) e (resource-step-shrunk sense r limit ts))
-
 -- ---- so for every sequence of steps
-module _ (sense : Sense) (qs : List Resource) (ts us : List Task) (a : check qs ts ≡ Accepted) (h : Keeps sense qs ts us) where
+module _ (f : Frame) (ts us : List Task) (a : check f ts ≡ Accepted) (h : Keeps f ts us) where
   pub keeps-rooms : rooms us ≤ rooms ts
-  keeps-rooms = rooms-le (h .inside) (check-live qs us (h .accepted))
+  keeps-rooms = rooms-le (h .inside) (check-live f us (h .accepted))
 
   pub keeps-less : sameTasks ts us ≡ false → rooms us < rooms ts
-  keeps-less e = rooms-less (h .inside) (check-live qs us (h .accepted)) (check-small qs ts a) e
+  keeps-less e = rooms-less (h .inside) (check-live f us (h .accepted)) (check-wide f ts a) e

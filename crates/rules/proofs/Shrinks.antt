@@ -1,6 +1,6 @@
 -- What a step leaves: each new set and range lies inside the old one, and none is empty.
 use mathlib.Core.Path.{_≡_}
-use Prim.Native.Nat.{ℕ, suc, _^_}
+use Prim.Native.Nat.{ℕ, _^_}
 use mathlib.Core.List.{List, [], _∷_, map}
 use mathlib.Core.Bool.{true, false}
 use lib.IntN.{ℤ, _+ℤ_, _-ℤ_, negℤ}
@@ -11,9 +11,9 @@ use Rattle.integers.specs.Hull.{Range, Left, left}
 use Rattle.integers.specs.Hull.Left.{Nothing, Some}
 use Rattle.integers.proofs.Z.{z, maxz, minz}
 use Rattle.integers.proofs.Tests.{if-case, any-out}
+use Rattle.integers.proofs.Lists.{each-so}
 use Rattle.integers.proofs.Hull.{Sub, LeftSub, left-sub, LeftFull, left-full}
 use Rattle.plan.specs.declared.Task.{Task}
-use Rattle.plan.specs.declared.Resource.{Resource}
 use Rattle.plan.specs.declared.Value.{Value}
 use Rattle.plan.specs.declared.Value.the-variants.{Origin, Duration, End, Height, Set}
 use Rattle.plan.specs.declared.Narrowed.{Narrowed}
@@ -24,15 +24,16 @@ use Rattle.plan.specs.Days.{daysOf, cutBelow, cutAbove, cutTo, emptySpan}
 use Rattle.plan.specs.Powers.{powersOf}
 use Rattle.plan.specs.Sets.{has, without}
 use Rattle.plan.proofs.Sets.{SubSet, alone-only, without-has}
-use Rattle.rules.specs.Allowed.{limitOn}
+use Rattle.rules.specs.Frame.{Frame, limitOn}
 use Rattle.rules.specs.Balance.{Outcome, andThen, each, cuts, unlessEmpty, balanced, balance}
 use Rattle.rules.specs.Balance.Outcome.{NoPlan, Plan}
-use Rattle.rules.specs.Step.{orRanOut, running, shortfall, needed, barred, keepsOrigin, keepsDuration, keepsEnd, keepsHeight, neededSet, keptSet, narrowed, listedDays, atLeastStep, negated, negatedPlan, resourceStep}
-use Rattle.rules.specs.Settle.{then, stepsFrom, pass}
+use Rattle.rules.specs.Step.{orRanOut, running, shortfall, needed, barred, keepsOrigin, keepsDuration, keepsEnd, keepsHeight, neededSet, keptSet, narrowed, listedDays, atLeastStep, negated, negatedPlan, senseStep, resourceStep}
+use Rattle.rules.specs.Settle.{then}
 use Rattle.rules.proofs.Live.{Live, Lives, lives-negated}
-use Rattle.rules.proofs.Live.Lives.{no-lives, more-lives}
-use Rattle.rules.proofs.Possible.{possible-has, needed-possible}
-use Rattle.rules.proofs.Subs.{SubTask, Subs, subs-self, subs-trans, subs-back}
+use Rattle.integers.specs.Lists.{Each}
+use Rattle.integers.specs.Lists.Each.{nothing, also}
+use Rattle.rules.proofs.TaskDay.{possible-is, needed-possible}
+use Rattle.rules.proofs.Subs.{SubTask, Subs, subs-back}
 use Rattle.rules.proofs.Subs.Subs.{no-subs, more-subs}
 
 abbrev TaskShrunk : Task → Narrowed → Type 0
@@ -47,17 +48,16 @@ Shrunk ts (Plan us) = Subs us ts × Lives us
 and-then-shrunk : (t : Task) (ts : List Task) (n : Narrowed) (o : Outcome) → TaskShrunk t n → Shrunk ts o → Shrunk (t ∷ ts) (andThen n o)
 and-then-shrunk t ts (RanOut v) o h g = tt
 and-then-shrunk t ts (Kept u) NoPlan h g = tt
-and-then-shrunk t ts (Kept u) (Plan us) h g = (more-subs (h .0) (g .0), more-lives (h .1) (g .1))
+and-then-shrunk t ts (Kept u) (Plan us) h g = (more-subs (h .0) (g .0), also (h .1) (g .1))
 
 -- a step that takes each task by itself shrinks the list where it shrinks each task
-data EachShrunk (f : Task → Narrowed) : List Task → Type 0 where
-  none-left : EachShrunk f []
-  one-more : {t : Task} {ts : List Task} → TaskShrunk t (f t) → EachShrunk f ts → EachShrunk f (t ∷ ts)
+abbrev EachShrunk : (Task → Narrowed) → List Task → Type 0
+EachShrunk f ts = Each (λ t. TaskShrunk t (f t)) ts
 
 each-shrunk : (f : Task → Narrowed) {ts : List Task} → EachShrunk f ts → Shrunk ts (each f ts)
 unfolding each
-each-shrunk f none-left = (no-subs, no-lives)
-each-shrunk f (one-more {t} {ts} h k) = and-then-shrunk t ts (f t) (each f ts) h (each-shrunk f k)
+each-shrunk f nothing = (no-subs, nothing)
+each-shrunk f (also {x = t} {xs = ts} h k) = and-then-shrunk t ts (f t) (each f ts) h (each-shrunk f k)
 
 -- ---- the resource step
 left-shrunk : (t : Task) (v : Value) (s : Range) (l : Left) (k : Range → Narrowed) → LeftSub s l → LeftFull l → ((x : Range) → Sub x s → x .low ≤ℤ x .high → TaskShrunk t (k x)) → TaskShrunk t (orRanOut v l k)
@@ -69,7 +69,7 @@ module _ (r : ℕ) (limit : ℤ → ℤ) (ts : List Task) (days : List ℤ) wher
   unfolding neededSet
   needed-sub t k =
       if-case (λ s. has s k ≡ true → has (t .set) k ≡ true) (any (needed r limit ts t) days) (2 ^ r) (t .set)
-      (λ n h. let e = any-out (needed r limit ts t) days n in rw (alone-only r k h) (possible-has r (e .0) t (needed-possible r (e .0) t limit ts (e .1))))
+      (λ n h. let e = any-out (needed r limit ts t) days n in rw (alone-only r k h) (possible-is r (e .0) t (needed-possible r (e .0) t limit ts (e .1)) .among))
       (λ n h. h)
 
   pub kept-sub : (t : Task) → SubSet (keptSet r limit ts days t) (t .set)
@@ -102,10 +102,10 @@ module _ (r : ℕ) (limit : ℤ → ℤ) (ts : List Task) (days : List ℤ) wher
       ))
 
   every-shrunk : (us : List Task) → EachShrunk (narrowed r limit ts days) us
-  every-shrunk [] = none-left
-  every-shrunk (u ∷ us) = one-more (narrowed-shrunk u) (every-shrunk us)
+  every-shrunk [] = nothing
+  every-shrunk (u ∷ us) = also (narrowed-shrunk u) (every-shrunk us)
 
-step-shrunk : (r : ℕ) (limit : ℤ → ℤ) (ts : List Task) → Shrunk ts (atLeastStep r limit ts)
+pub step-shrunk : (r : ℕ) (limit : ℤ → ℤ) (ts : List Task) → Shrunk ts (atLeastStep r limit ts)
 unfolding atLeastStep
 step-shrunk r limit ts =
     if-case (Shrunk ts) (any (shortfall r limit ts) (listedDays ts)) NoPlan (each (narrowed r limit ts (listedDays ts)) ts) (λ e. tt)
@@ -115,11 +115,15 @@ negated-shrunk : (ts : List Task) (o : Outcome) → Shrunk (map negated ts) o �
 negated-shrunk ts NoPlan h = tt
 negated-shrunk ts (Plan us) h = (subs-back ts us (h .0), lives-negated (h .1))
 
-pub resource-step-shrunk : (sense : Sense) (r : ℕ) (limit : ℤ → ℤ) (ts : List Task) → Shrunk ts (resourceStep sense r limit ts)
-unfolding resourceStep
-resource-step-shrunk AtLeast r limit ts = step-shrunk r limit ts
-resource-step-shrunk AtMost r limit ts =
+sense-step-shrunk : (sense : Sense) (r : ℕ) (limit : ℤ → ℤ) (ts : List Task) → Shrunk ts (senseStep sense r limit ts)
+unfolding senseStep
+sense-step-shrunk AtLeast r limit ts = step-shrunk r limit ts
+sense-step-shrunk AtMost r limit ts =
     negated-shrunk ts (atLeastStep r (λ i. negℤ (limit i)) (map negated ts)) (step-shrunk r (λ i. negℤ (limit i)) (map negated ts))
+
+pub resource-step-shrunk : (f : Frame) (r : ℕ) (ts : List Task) → Shrunk ts (resourceStep f r ts)
+unfolding resourceStep
+resource-step-shrunk f r ts = sense-step-shrunk (f .sense) r (limitOn f r) ts
 
 -- ---- balance
 cuts-sub : (t : Task) → SubTask (cuts t) t
@@ -161,30 +165,8 @@ balanced-shrunk : (t : Task) → Live t → TaskShrunk t (balanced t)
 unfolding balanced
 balanced-shrunk t l = unless-shrunk t (cuts t) (cuts-sub t) (cuts-height t l) (cuts-set t l)
 
-every-balanced : {ts : List Task} → Lives ts → EachShrunk balanced ts
-every-balanced no-lives = none-left
-every-balanced (more-lives {t} l k) = one-more (balanced-shrunk t l) (every-balanced k)
-
 pub balance-shrunk : {ts : List Task} → Lives ts → Shrunk ts (balance ts)
 unfolding balance
-balance-shrunk l = each-shrunk balanced (every-balanced l)
+balance-shrunk l = each-shrunk balanced (each-so balanced-shrunk l)
 
 -- ---- one after another
-pub then-shrunk : (ts : List Task) (o : Outcome) (k : List Task → Outcome) → Shrunk ts o → ((us : List Task) → Lives us → Shrunk us (k us)) → Shrunk ts (then o k)
-then-shrunk ts NoPlan k h f = tt
-then-shrunk ts (Plan us) k h f = carry (k us) (f us (h .1))
-  where
-    carry : (o : Outcome) → Shrunk us o → Shrunk ts o
-    carry NoPlan g = tt
-    carry (Plan vs) g = (subs-trans (g .0) (h .0), g .1)
-
-steps-shrunk : (sense : Sense) (r : ℕ) (qs : List Resource) (ts : List Task) → Lives ts → Shrunk ts (stepsFrom sense r qs ts)
-unfolding stepsFrom
-steps-shrunk sense r [] ts h = (subs-self ts, h)
-steps-shrunk sense r (q ∷ qs) ts h =
-    then-shrunk ts (resourceStep sense r (limitOn q) ts) (stepsFrom sense (suc r) qs) (resource-step-shrunk sense r (limitOn q) ts)
-    (steps-shrunk sense (suc r) qs)
-
-pub pass-shrunk : (sense : Sense) (qs : List Resource) {ts : List Task} → Lives ts → Shrunk ts (pass sense qs ts)
-unfolding pass
-pass-shrunk sense qs {ts} h = then-shrunk ts (balance ts) (stepsFrom sense 0 qs) (balance-shrunk h) (steps-shrunk sense 0 qs)

@@ -8,7 +8,7 @@ use Rattle.integers.proofs.Z.{z, ~z}
 use Rattle.integers.proofs.Hull.{Sub}
 use Rattle.plan.specs.declared.Task.{Task}
 use Rattle.plan.specs.Days.{daysOf}
-use Rattle.plan.specs.Powers.{powersOf, turned}
+use Rattle.plan.specs.Powers.{powersOf, negatedPowers}
 use Rattle.plan.proofs.Sets.{SubSet}
 use Rattle.rules.specs.Step.{negated}
 
@@ -54,7 +54,7 @@ subs-length (more-subs h f) = ap suc (subs-length f)
 
 -- ---- negated
 sub-back : (t u : Task) → SubTask u (negated t) → SubTask (negated u) t
-unfolding negated turned
+unfolding negated negatedPowers
 sub-back t u h =
     let e = h .height in
     record {

@@ -11,11 +11,12 @@ use Rattle.integers.proofs.Z.{eqZ-in}
 use Rattle.integers.proofs.Tests.{clash, by-cases, false-in, and-first, not-out, or-left, not-any}
 use Rattle.plan.specs.declared.Task.{Task}
 use Rattle.rules.specs.Step.{possible, sure, total, counts, shortfall, needed, barred, listedDays}
-use Rattle.rules.proofs.Days.{In, listed}
-use Rattle.rules.proofs.Days.In.{head, tail}
+use Rattle.integers.specs.Lists.{In}
+use Rattle.rules.proofs.Days.{listed}
+use Rattle.integers.specs.Lists.In.{head, tail}
 use Rattle.rules.proofs.Live.{Live, Lives}
-use Rattle.rules.proofs.Live.Lives.{more-lives}
-use Rattle.rules.proofs.Possible.{possible-from, possible-to, sure-possible, no-sure, no-need, no-bar}
+use Rattle.integers.proofs.Lists.{each-in}
+use Rattle.rules.proofs.TaskDay.{possible-is, sure-possible, no-sure, no-need, no-bar}
 
 -- a day counts because of a task of the list
 pub counts-in : (r : ℕ) (i : ℤ) (ts : List Task) → counts r ts i ≡ true → (t : Task) × In t ts × (sure r i t ≡ true)
@@ -27,16 +28,13 @@ counts-in r i (t ∷ ts) h =
     let q = counts-in r i ts (sym (or-left (sure r i t) (any (sure r i) ts) e) ∙ h) in
     (q .0, tail (q .1), q .2))
 
-pub live-in : {ts : List Task} → Lives ts → {t : Task} → In t ts → Live t
-live-in (more-lives l f) head = l
-live-in (more-lives l f) (tail k) = live-in f k
-
 -- ---- a day that is not listed
 module _ (r : ℕ) (limit : ℤ → ℤ) (ts : List Task) (i : ℤ) (out : any (eqZ i) (listedDays ts) ≡ false) where
   pub possible-unlisted : {t : Task} → In t ts → possible r i t ≡ false
   possible-unlisted {t} k =
       false-in (possible r i t) λ h.
-      let q = listed r (λ j. not (eqZ i j)) t ts k (not-any (eqZ i) (listedDays ts) out) i (possible-from r i t h) (possible-to r i t h) in
+      let p = possible-is r i t h in
+      let q = listed r (λ j. not (eqZ i j)) t ts k (not-any (eqZ i) (listedDays ts) out) i (p .late) (p .early) in
       clash (eqZ i i) (eqZ-in i i refl) (not-out (eqZ i i) q)
 
   pub sure-unlisted : {t : Task} → In t ts → Live t → sure r i t ≡ false
@@ -52,7 +50,7 @@ module _ (r : ℕ) (limit : ℤ → ℤ) (ts : List Task) (i : ℤ) (out : any (
   counts-unlisted l =
       false-in (counts r ts i) λ h.
       let q = counts-in r i ts h in
-      clash (sure r i (q .0)) (q .2) (sure-unlisted (q .1) (live-in l (q .1)))
+      clash (sure r i (q .0)) (q .2) (sure-unlisted (q .1) (each-in l (q .1)))
 
   pub shortfall-unlisted : Lives ts → shortfall r limit ts i ≡ false
   unfolding shortfall
@@ -65,6 +63,6 @@ no-shortfall-ever r limit ts l h i =
     false-in (shortfall r limit ts i) λ s.
     let q = counts-in r i ts (and-first (counts r ts i) (ltZ (total r ts i) (limit i)) s) in
     let t = q .0 in
-    let p = sure-possible r i t (live-in l (q .1)) (q .2) in
-    let n = listed r (λ j. not (shortfall r limit ts j)) t ts (q .1) (not-any (shortfall r limit ts) (listedDays ts) h) i (possible-from r i t p) (possible-to r i t p) in
+    let p = possible-is r i t (sure-possible r i t (each-in l (q .1)) (q .2)) in
+    let n = listed r (λ j. not (shortfall r limit ts j)) t ts (q .1) (not-any (shortfall r limit ts) (listedDays ts) h) i (p .late) (p .early) in
     clash (shortfall r limit ts i) s (not-out (shortfall r limit ts i) n)

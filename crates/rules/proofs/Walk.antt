@@ -1,6 +1,6 @@
 -- A loop that takes each task by itself, in place, from the front: `eachLeft f i ts` is the whole answer, with the first i tasks
 -- done and the others still to do.
-use mathlib.Core.Path.{_≡_, refl, sym, ap, _∙_}
+use mathlib.Core.Path.{_≡_, refl, sym, ap}
 use mathlib.Core.List.{List, [], _∷_}
 use Prim.Native.Nat.{ℕ, zero, suc, _+_, _≤_, _<_}
 use native.Mathlib.Nat.{not-suc-le-zero, le-of-suc-le-suc}

@@ -1,5 +1,5 @@
 -- "An allowed plan": a choice for each task, and when such a choice keeps the rules. Both senses are stated directly.
-use Prim.Native.Nat.{ℕ, zero, suc}
+use Prim.Native.Nat.{ℕ}
 use mathlib.Core.List.{List, [], _∷_}
 use mathlib.Core.Bool.{Bool, true, false}
 use lib.IntN.{ℤ, pos, _+ℤ_, predℤ}
@@ -10,12 +10,12 @@ use Rattle.integers.specs.Tests.{if, and, implies, all}
 use Rattle.integers.specs.Sums.{sumOf}
 use Rattle.integers.specs.Hull.{range, within, values}
 use Rattle.plan.specs.declared.Task.{Task}
-use Rattle.plan.specs.declared.Resource.{Resource}
 use Rattle.plan.specs.declared.Sense.{Sense}
 use Rattle.plan.specs.declared.Sense.the-variants.{AtMost, AtLeast}
 use Rattle.plan.specs.Days.{daysOf}
 use Rattle.plan.specs.Powers.{powersOf}
 use Rattle.plan.specs.Sets.{has}
+use Rattle.rules.specs.Frame.{Frame, places, limitOn}
 
 -- "It chooses for each task one resource and one value in each range"
 pub record Choice : Type 0 where
@@ -63,19 +63,10 @@ unfoldable pub meets : Sense → ℤ → ℤ → Bool
 meets AtLeast limit x = leZ limit x
 meets AtMost limit x = leZ x limit
 
--- the limit of a resource on a day
-unfoldable pub limitOn : Resource → ℤ → ℤ
-limitOn q i = q .limit .0
-
 -- "on every resource and every day covered there by at least one task"; "A day that no task covers is not checked"
 unfoldable pub holds : Sense → ℕ → (ℤ → ℤ) → List Choice → Bool
 holds sense r limit cs =
     all (λ c. implies (eqb (c .resource) r) (all (λ i. meets sense (limit i) (level r i cs)) (coveredDays c))) cs
 
--- every resource, from place r on
-unfoldable pub holdsFrom : Sense → ℕ → List Resource → List Choice → Bool
-holdsFrom sense r [] cs = true
-holdsFrom sense r (q ∷ qs) cs = and (holds sense r (limitOn q) cs) (holdsFrom sense (suc r) qs cs)
-
-unfoldable pub allowed : Sense → List Resource → List Choice → Bool
-allowed sense qs cs = and (all joined cs) (holdsFrom sense 0 qs cs)
+unfoldable pub allowed : Frame → List Choice → Bool
+allowed f cs = and (all joined cs) (all (λ r. holds (f .sense) r (limitOn f r) cs) (places f))

@@ -1,9 +1,7 @@
 -- "Balance", and what a step gives: a plan, or none.
-use mathlib.Core.List.{List, [], _∷_, map}
-use mathlib.Core.Bool.{Bool, true, false}
+use mathlib.Core.List.{List, [], _∷_}
 use lib.IntN.{ℤ, _+ℤ_, _-ℤ_}
-use lib.Signed.{leZ}
-use Rattle.integers.specs.Tests.{if, or}
+use Rattle.integers.specs.Tests.{if}
 use Rattle.plan.specs.declared.Task.{Task}
 use Rattle.plan.specs.declared.Narrowed.{Narrowed}
 use Rattle.plan.specs.declared.Narrowed.the-variants.{Kept, RanOut}

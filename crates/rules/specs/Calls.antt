@@ -1,63 +1,55 @@
 -- "Numbered refusals" for lists, in their order: 1, 2, 3 over all resources, 4 over all, then task by task 5 before 6, then 12, then 7;
 -- and what each call answers and leaves, on any lists.
-use Prim.Native.Nat.{ℕ, zero, suc, _^_}
+use Prim.Native.Nat.{ℕ, suc, _^_}
 use mathlib.Core.List.{List, [], _∷_}
 use mathlib.Core.Bool.{Bool, true, false, not}
 use lib.IntN.{ℤ}
 use lib.Dec.{eqb, ltb}
 use lib.ListN.{length}
 use Rattle.integers.specs.Whole.{eqZ}
-use Rattle.integers.specs.Tests.{if, and, or, any}
+use Rattle.integers.specs.Tests.{and, or, any}
+use Rattle.integers.specs.Hull.{within, fits}
 use Rattle.plan.specs.declared.Task.{Task}
 use Rattle.plan.specs.declared.Resource.{Resource}
-use Rattle.plan.specs.declared.Sense.{Sense}
+use Rattle.plan.specs.declared.Checked.{Checked}
 use Rattle.plan.specs.declared.Refusal.{Refusal}
 use Rattle.plan.specs.declared.Refusal.the-variants.{TooManyTasks, ResourceCount, RepeatedIdentifier, LimitOutside, RangeOutside, SetOutside, NoPlan, NoSuchResource}
+use Rattle.plan.specs.declared.Call.{Call}
+use Rattle.plan.specs.declared.Call.the-variants.{Check, Balance, Step, Pass, Settle}
 use Rattle.plan.specs.declared.Answer.{Answer}
 use Rattle.plan.specs.declared.Answer.the-variants.{Done, Refused}
-use Rattle.plan.specs.Days.{dayLow, dayHigh, durationLow, durationHigh, spanFits}
-use Rattle.plan.specs.Powers.{powerFits, powersFit}
-use Rattle.rules.specs.Allowed.{limitOn}
+use Rattle.plan.specs.Days.{daysOf, dayEnds, durationEnds}
+use Rattle.plan.specs.Powers.{powersOf, powerEnds}
+use Rattle.plan.specs.Tasks.{mostTasks, mostResources}
+use Rattle.rules.specs.Frame.{Frame, resourceCount}
 use Rattle.rules.specs.Balance.{Outcome, balance}
 use Rattle.rules.specs.Step.{resourceStep}
 use Rattle.rules.specs.Settle.{Settled, pass, settle}
 
--- "1 to 16 resources", "0 to 256 tasks"
-abbrev pub mostResources : ℕ
-mostResources = 16
-
-abbrev pub mostTasks : ℕ
-mostTasks = 256
-
--- accepted, or the first refusal
-pub data Checked : Type 0 where
-  Accepted : Checked
-  Refuse : Refusal → Checked
-
 abbrev pub orElse : Checked → Checked → Checked
-orElse Accepted c = c
-orElse (Refuse f) c = Refuse f
+orElse Checked.Accepted c = c
+orElse (Checked.Refused f) c = Checked.Refused f
 
 abbrev pub refuseIf : Bool → Refusal → Checked
-refuseIf true f = Refuse f
-refuseIf false f = Accepted
+refuseIf true f = Checked.Refused f
+refuseIf false f = Checked.Accepted
 
 -- 3: "an identifier repeats an earlier one; first resource that repeats". The earlier ones are listed with the latest first.
 unfoldable pub repeats : ℕ → List ℤ → List Resource → Checked
-repeats k seen [] = Accepted
+repeats k seen [] = Checked.Accepted
 repeats k seen (q ∷ qs) =
     orElse (refuseIf (any (eqZ (q .id)) seen) (RepeatedIdentifier k)) (repeats (suc k) (q .id ∷ seen) qs)
 
 -- 4: "a limit outside its ends; first such resource"
 unfoldable pub limits : ℕ → List Resource → Checked
-limits k [] = Accepted
-limits k (q ∷ qs) = orElse (refuseIf (not (powerFits (q .limit))) (LimitOutside k)) (limits (suc k) qs)
+limits k [] = Checked.Accepted
+limits k (q ∷ qs) = orElse (refuseIf (not (within powerEnds (q .limit .0))) (LimitOutside k)) (limits (suc k) qs)
 
 -- 5: "a task's range is outside its ends, or low above high"
 unfoldable pub rangesFit : Task → Bool
 rangesFit t =
-    and (spanFits dayLow dayHigh (t .origin))
-    (and (spanFits durationLow durationHigh (t .duration)) (and (spanFits dayLow dayHigh (t .end)) (powersFit (t .height))))
+    and (fits dayEnds (daysOf (t .origin)))
+    (and (fits durationEnds (daysOf (t .duration))) (and (fits dayEnds (daysOf (t .end))) (fits powerEnds (powersOf (t .height)))))
 
 -- 6: "a task's set is empty or names a place beyond the resource list"
 unfoldable pub setFits : ℕ → Task → Bool
@@ -65,19 +57,20 @@ setFits n t = and (not (eqb (t .set) 0)) (ltb (t .set) (2 ^ n))
 
 -- "task by task 5 before 6"
 unfoldable pub tasksFit : ℕ → ℕ → List Task → Checked
-tasksFit n k [] = Accepted
+tasksFit n k [] = Checked.Accepted
 tasksFit n k (t ∷ ts) =
     orElse (refuseIf (not (rangesFit t)) (RangeOutside k))
     (orElse (refuseIf (not (setFits n t)) (SetOutside k)) (tasksFit n (suc k) ts))
 
 -- 1 to 6
-unfoldable pub check : List Resource → List Task → Checked
-check qs ts =
+unfoldable pub check : Frame → List Task → Checked
+check f ts =
+    let n = resourceCount f in
     orElse (refuseIf (ltb mostTasks (length ts)) TooManyTasks)
-    (orElse (refuseIf (or (eqb (length qs) 0) (ltb mostResources (length qs))) ResourceCount)
-    (orElse (repeats 0 [] qs) (orElse (limits 0 qs) (tasksFit (length qs) 0 ts))))
+    (orElse (refuseIf (or (eqb n 0) (ltb mostResources n)) ResourceCount)
+    (orElse (repeats 0 [] (f .resources)) (orElse (limits 0 (f .resources)) (tasksFit n 0 ts))))
 
--- what a call answers, and what the lent tasks hold then: "On each refusal, task lists keep their entry contents."
+-- what a call answers, and what the lent tasks hold then: "On each refusal, task lists and buffers keep their entry contents."
 pub record Result : Type 0 where
   pub answer : Answer
   pub tasks : List Task
@@ -91,8 +84,8 @@ done n ts = record { answer = Done n; tasks = ts }
 
 -- "Every public call checks its own input."
 abbrev pub unlessRefused : Checked → List Task → Result → Result
-unlessRefused Accepted ts x = x
-unlessRefused (Refuse f) ts x = refused f ts
+unlessRefused Checked.Accepted ts x = x
+unlessRefused (Checked.Refused f) ts x = refused f ts
 
 -- 7: "a step finds no plan"
 abbrev pub stepped : List Task → Outcome → Result
@@ -104,23 +97,29 @@ settled ts Settled.Refused = refused NoPlan ts
 settled ts (Settled.After n us) = done n us
 settled ts Settled.Unsettled = refused NoPlan ts
 
-unfoldable pub checkCall : List Resource → List Task → Result
-checkCall qs ts = unlessRefused (check qs ts) ts (done 0 ts)
+-- 12: "a resource step names a place not in the list", of so many resources
+abbrev pub placedIn : ℕ → Call → Bool
+placedIn n Check = true
+placedIn n Balance = true
+placedIn n (Step r) = ltb r n
+placedIn n Pass = true
+placedIn n Settle = true
 
-unfoldable pub balanceCall : List Resource → List Task → Result
-balanceCall qs ts = unlessRefused (check qs ts) ts (stepped ts (balance ts))
+-- what a call answers and leaves of a plan that passed the checks
+abbrev pub answered : Call → Frame → List Task → Result
+answered Check f ts = done 0 ts
+answered Balance f ts = stepped ts (balance ts)
+answered (Step r) f ts = stepped ts (resourceStep f r ts)
+answered Pass f ts = stepped ts (pass f ts)
+answered Settle f ts = settled ts (settle f ts)
 
--- 12: "a resource step names a place not in the list"
-unfoldable pub stepAt : Sense → ℕ → ℕ → List Resource → List Task → Result
-stepAt sense r k [] ts = refused NoSuchResource ts
-stepAt sense r zero (q ∷ qs) ts = stepped ts (resourceStep sense r (limitOn q) ts)
-stepAt sense r (suc k) (q ∷ qs) ts = stepAt sense r k qs ts
+-- the calls of the page
+unfoldable pub callOf : Call → Frame → List Task → Result
+callOf c f ts =
+    unlessRefused (orElse (check f ts) (refuseIf (not (placedIn (resourceCount f) c)) NoSuchResource)) ts (answered c f ts)
 
-unfoldable pub stepCall : Sense → ℕ → List Resource → List Task → Result
-stepCall sense r qs ts = unlessRefused (check qs ts) ts (stepAt sense r r qs ts)
-
-unfoldable pub passCall : Sense → List Resource → List Task → Result
-passCall sense qs ts = unlessRefused (check qs ts) ts (stepped ts (pass sense qs ts))
-
-unfoldable pub settleCall : Sense → List Resource → List Task → Result
-settleCall sense qs ts = unlessRefused (check qs ts) ts (settled ts (settle sense qs ts))
+-- what a call answers and leaves, of tasks ts that entered and tasks us that the engine's own rows hold now: a refusal leaves ts, whatever these
+-- rows hold, for nothing of them is stored then
+abbrev pub resultOf : Answer → List Task → List Task → Result
+resultOf (Done n) ts us = done n us
+resultOf (Refused f) ts us = refused f ts

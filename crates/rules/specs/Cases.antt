@@ -7,15 +7,18 @@ use Rattle.plan.specs.declared.Task.{Task}
 use Rattle.plan.specs.declared.Resource.{Resource}
 use Rattle.plan.specs.declared.Sense.{Sense}
 use Rattle.plan.specs.declared.Sense.the-variants.{AtMost, AtLeast}
-use Rattle.plan.specs.declared.Refusal.the-variants.{TooManyTasks, ResourceCount, RepeatedIdentifier, LimitOutside, RangeOutside, SetOutside, NoPlan, NoSuchResource}
+use Rattle.plan.specs.declared.Call.{Call}
+use Rattle.plan.specs.declared.Call.the-variants.{Step, Pass, Settle}
+use Rattle.plan.specs.declared.Refusal.the-variants.{ResourceCount, RepeatedIdentifier, LimitOutside, RangeOutside, SetOutside, NoPlan}
 use Rattle.plan.specs.Days.{spanOf}
 use Rattle.plan.specs.Powers.{power, powerSpanOf}
+use Rattle.rules.specs.Frame.{Frame, plain}
 use Rattle.rules.specs.Calls.{Result, done, refused}
 
--- a plan, and what settling it answers and leaves
+-- a plan, a call, and what it answers and leaves
 pub record Case : Type 0 where
-  pub sense : Sense
-  pub resources : List Resource
+  pub call : Call
+  pub frame : Frame
   pub tasks : List Task
   pub result : Result
 
@@ -37,10 +40,10 @@ abbrev limit : ℤ → List Resource
 limit l = resource (pos 7) l ∷ []
 
 abbrev settles : Sense → List Resource → List Task → ℕ → List Task → Case
-settles s qs ts n us = record { sense = s; resources = qs; tasks = ts; result = done n us }
+settles s qs ts n us = record { call = Settle; frame = plain s qs; tasks = ts; result = done n us }
 
 abbrev hasNone : Sense → List Resource → List Task → Case
-hasNone s qs ts = record { sense = s; resources = qs; tasks = ts; result = refused NoPlan ts }
+hasNone s qs ts = record { call = Settle; frame = plain s qs; tasks = ts; result = refused NoPlan ts }
 
 -- ---- the page's cases
 abbrev caseA : Task
@@ -49,11 +52,18 @@ caseA = here (pos 3) (pos 2) (pos 5) (pos 2)
 abbrev case9First : Task
 case9First = task 1 (range (pos 1) (pos 2)) (one (pos 2)) (range (pos 3) (pos 4)) (range (pos 0) (pos 1))
 
-abbrev pub case9Resources : List Resource
+abbrev case9Resources : List Resource
 case9Resources = resource (pos 7) (pos 4) ∷ resource (pos 9) (pos 3) ∷ []
+
+abbrev pub case9Frame : Frame
+case9Frame = plain AtLeast case9Resources
 
 abbrev pub case9Before : List Task
 case9Before = case9First ∷ task 3 (range (pos 0) (pos 6)) (one (pos 2)) (range (pos 2) (pos 8)) (range (pos 0) (pos 4)) ∷ []
+
+-- its first resource's step needs the second task on day 2; only the second pass finds that task's least height
+abbrev pub case9Stepped : List Task
+case9Stepped = case9First ∷ task 1 (range (pos 1) (pos 2)) (one (pos 2)) (range (pos 3) (pos 4)) (range (pos 0) (pos 4)) ∷ []
 
 abbrev pub case9After : List Task
 case9After = case9First ∷ task 1 (range (pos 1) (pos 2)) (one (pos 2)) (range (pos 3) (pos 4)) (range (pos 3) (pos 4)) ∷ []
@@ -90,7 +100,7 @@ pageCases =
 
 -- ---- cases of our own
 abbrev refuses : Sense → List Resource → List Task → Result → Case
-refuses s qs ts x = record { sense = s; resources = qs; tasks = ts; result = x }
+refuses s qs ts x = record { call = Settle; frame = plain s qs; tasks = ts; result = x }
 
 abbrev two : ℤ → ℤ → List Resource
 two a b = resource (pos 7) a ∷ resource (pos 9) b ∷ []
@@ -98,6 +108,18 @@ two a b = resource (pos 7) a ∷ resource (pos 9) b ∷ []
 -- a job on one resource or the other
 abbrev either : ℤ → ℤ → ℤ → ℤ → Task
 either o d e h = task 3 (one o) (one d) (one e) (one h)
+
+-- calls on case 9 other than settling
+abbrev pub case9Calls : List Case
+case9Calls =
+    record { call = Step 0; frame = case9Frame; tasks = case9Before; result = done 0 case9Stepped }
+    ∷ record { call = Pass; frame = case9Frame; tasks = case9Before; result = done 0 case9Stepped }
+    ∷ []
+
+abbrev needsFirstOthers : List Task
+needsFirstOthers =
+    task 1 (range (pos 0) (pos 3)) (one (pos 1)) (range (pos 1) (pos 4)) (one (pos 2))
+    ∷ task 1 (range (pos 5) (pos 6)) (one (pos 2)) (range (pos 7) (pos 8)) (one (pos 1)) ∷ []
 
 abbrev pub ownCases : List Case
 ownCases =
@@ -144,19 +166,11 @@ ownCases =
     (refused (SetOutside 0) (task 2 (one (pos 1)) (one (pos 1)) (one (pos 2)) (one (pos 0)) ∷ task 1 (one (pos 1)) (one (pos 1)) (range (pos 2) (pos 1)) (one (pos 0)) ∷ []))
     ∷ refuses AtMost (limit (pos 0)) (task 0 (one (pos 1)) (one (pos 1)) (one (pos 2)) (one (pos 0)) ∷ [])
     (refused (SetOutside 0) (task 0 (one (pos 1)) (one (pos 1)) (one (pos 2)) (one (pos 0)) ∷ []))
+    -- one resource step: all needs come before bars. Day 6 needs the third task, days 4 and 8 are barred to it: only origin 5 is left.
+    ∷ record {
+      call = Step 0;
+      frame = plain AtLeast (limit (pos 2));
+      tasks = needsFirstOthers ++ task 1 (range (pos 0) (pos 6)) (one (pos 3)) (range (pos 3) (pos 9)) (one (pos 1)) ∷ [];
+      result = done 0 (needsFirstOthers ++ here (pos 5) (pos 3) (pos 8) (pos 1) ∷ []);
+    }
     ∷ []
-
--- one resource step: all needs come before bars. Day 6 needs the third task, days 4 and 8 are barred to it: only origin 5 is left.
-abbrev needsFirstOthers : List Task
-needsFirstOthers =
-    task 1 (range (pos 0) (pos 3)) (one (pos 1)) (range (pos 1) (pos 4)) (one (pos 2))
-    ∷ task 1 (range (pos 5) (pos 6)) (one (pos 2)) (range (pos 7) (pos 8)) (one (pos 1)) ∷ []
-
-abbrev pub needsFirstResources : List Resource
-needsFirstResources = limit (pos 2)
-
-abbrev pub needsFirstBefore : List Task
-needsFirstBefore = needsFirstOthers ++ task 1 (range (pos 0) (pos 6)) (one (pos 3)) (range (pos 3) (pos 9)) (one (pos 1)) ∷ []
-
-abbrev pub needsFirstAfter : List Task
-needsFirstAfter = needsFirstOthers ++ here (pos 5) (pos 3) (pos 8) (pos 1) ∷ []

@@ -8,7 +8,7 @@ use Rattle.integers.specs.Hull.{range}
 use Rattle.plan.specs.declared.Task.{Task}
 use Rattle.plan.specs.Days.{spanOf}
 use Rattle.plan.specs.Powers.{powerSpanOf}
-use Rattle.plan.specs.Sets.{size}
+use Rattle.plan.specs.Sets.{setBits, size}
 use Rattle.rules.specs.Allowed.{Choice}
 
 -- the task that leaves this choice alone
@@ -29,4 +29,4 @@ oneValue t =
     (and (eqZ (t .end .low .0) (t .end .high .0)) (eqZ (t .height .low .0) (t .height .high .0))))
 
 unfoldable pub oneResource : Task → Bool
-oneResource t = eqb (size 64 (t .set)) 1
+oneResource t = eqb (size setBits (t .set)) 1

@@ -1,4 +1,5 @@
--- The page of rules, in the page's order: what an allowed plan is, the steps, pass and settling, and what each call answers.
+-- The page of rules, in the page's order: a plan's frame, what an allowed plan is, the steps, pass and settling, and what each call answers.
+pub mod Frame
 pub mod Allowed
 pub mod Listing
 pub mod Balance
@@ -7,4 +8,5 @@ pub mod Settle
 pub mod Moves
 pub mod Fixed
 pub mod Calls
+pub mod Negation
 pub mod Cases

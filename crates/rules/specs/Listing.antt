@@ -1,28 +1,21 @@
 -- The allowed plans inside a plan's ranges, by plain listing: every choice of every task, filtered. "Two plans are the same if all five values of all tasks are."
-use Prim.Native.Nat.{ℕ, zero, suc}
+use Prim.Native.Nat.{ℕ}
 use mathlib.Core.List.{List, [], _∷_, _++_, map}
-use mathlib.Core.Bool.{Bool}
 use lib.IntN.{ℤ}
 use lib.ListN.{length}
 use Rattle.integers.specs.Tests.{filter}
 use Rattle.integers.specs.Hull.{values}
 use Rattle.plan.specs.declared.Task.{Task}
-use Rattle.plan.specs.declared.Resource.{Resource}
-use Rattle.plan.specs.declared.Sense.{Sense}
 use Rattle.plan.specs.Days.{daysOf}
 use Rattle.plan.specs.Powers.{powersOf}
 use Rattle.plan.specs.Sets.{has}
+use Rattle.rules.specs.Frame.{Frame, resourceCount, placesFrom}
 use Rattle.rules.specs.Allowed.{Choice, allowed}
 
 -- f of every x and every y, the y running first
 unfoldable pub cross : {A B C : Type 0} → (A → B → C) → List A → List B → List C
 cross f [] ys = []
 cross f (x ∷ xs) ys = map (f x) ys ++ cross f xs ys
-
--- n places from k upwards
-unfoldable pub places : ℕ → ℕ → List ℕ
-places k zero = []
-places k (suc n) = k ∷ places (suc k) n
 
 -- a choice is put together from its last value to its first
 abbrev pub FromEnd : Type 0
@@ -49,7 +42,7 @@ choice r q = record { resource = r; origin = q .origin; duration = q .rest .dura
 -- every choice for a task, on the first n resources
 unfoldable pub choices : ℕ → Task → List Choice
 choices n t =
-    cross choice (filter (has (t .set)) (places 0 n))
+    cross choice (filter (has (t .set)) (placesFrom 0 n))
     (cross fromOrigin (values (daysOf (t .origin)))
     (cross fromDuration (values (daysOf (t .duration)))
     (cross fromEnd (values (daysOf (t .end))) (values (powersOf (t .height))))))
@@ -59,9 +52,9 @@ unfoldable pub listing : ℕ → List Task → List (List Choice)
 listing n [] = [] ∷ []
 listing n (t ∷ ts) = cross (λ c cs. c ∷ cs) (choices n t) (listing n ts)
 
-unfoldable pub plans : Sense → List Resource → List Task → List (List Choice)
-plans sense qs ts = filter (allowed sense qs) (listing (length qs) ts)
+unfoldable pub plans : Frame → List Task → List (List Choice)
+plans f ts = filter (allowed f) (listing (resourceCount f) ts)
 
--- "their number, counted by plain listing"
-unfoldable pub count : Sense → List Resource → List Task → ℕ
-count sense qs ts = length (plans sense qs ts)
+-- how many there are, counted by plain listing
+unfoldable pub count : Frame → List Task → ℕ
+count f ts = length (plans f ts)

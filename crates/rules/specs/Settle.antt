@@ -2,18 +2,14 @@
 use Prim.Native.Nat.{ℕ, zero, suc, _+_, _-_}
 use mathlib.Core.List.{List, [], _∷_}
 use mathlib.Core.Bool.{Bool, true, false}
-use lib.IntN.{ℤ, pos, negsuc, _-ℤ_, natAbs}
 use lib.Dec.{eqb}
-use Rattle.integers.specs.Whole.{eqZ}
 use Rattle.integers.specs.Tests.{if, and}
-use Rattle.integers.specs.Hull.{Range}
+use Rattle.integers.specs.Hull.{sameRange, width}
 use Rattle.plan.specs.declared.Task.{Task}
-use Rattle.plan.specs.declared.Resource.{Resource}
-use Rattle.plan.specs.declared.Sense.{Sense}
 use Rattle.plan.specs.Days.{daysOf}
 use Rattle.plan.specs.Powers.{powersOf}
-use Rattle.plan.specs.Sets.{size}
-use Rattle.rules.specs.Allowed.{limitOn}
+use Rattle.plan.specs.Sets.{setBits, size}
+use Rattle.rules.specs.Frame.{Frame, places}
 use Rattle.rules.specs.Balance.{Outcome, balance}
 use Rattle.rules.specs.Balance.Outcome.{NoPlan, Plan}
 use Rattle.rules.specs.Step.{resourceStep}
@@ -23,24 +19,23 @@ abbrev pub then : Outcome → (List Task → Outcome) → Outcome
 then NoPlan k = NoPlan
 then (Plan ts) k = k ts
 
--- the resource step for each resource from place r on
-unfoldable pub stepsFrom : Sense → ℕ → List Resource → List Task → Outcome
-stepsFrom sense r [] ts = Plan ts
-stepsFrom sense r (q ∷ qs) ts = then (resourceStep sense r (limitOn q) ts) (stepsFrom sense (suc r) qs)
+-- the resource step for each of these places, in their order
+unfoldable pub steps : Frame → List ℕ → List Task → Outcome
+steps f [] ts = Plan ts
+steps f (r ∷ rs) ts = then (resourceStep f r ts) (steps f rs)
 
-unfoldable pub pass : Sense → List Resource → List Task → Outcome
-pass sense qs ts = then (balance ts) (stepsFrom sense 0 qs)
+unfoldable pub pass : Frame → List Task → Outcome
+pass f ts = then (balance ts) (steps f (places f))
 
 -- "changes nothing": the same set and ranges for every task
-unfoldable pub sameRange : Range → Range → Bool
-sameRange a b = and (eqZ (a .low) (b .low)) (eqZ (a .high) (b .high))
+unfoldable pub sameRanges : Task → Task → Bool
+sameRanges a b =
+    and (sameRange (daysOf (a .origin)) (daysOf (b .origin)))
+    (and (sameRange (daysOf (a .duration)) (daysOf (b .duration)))
+    (and (sameRange (daysOf (a .end)) (daysOf (b .end))) (sameRange (powersOf (a .height)) (powersOf (b .height)))))
 
 unfoldable pub sameTask : Task → Task → Bool
-sameTask a b =
-    and (eqb (a .set) (b .set))
-    (and (sameRange (daysOf (a .origin)) (daysOf (b .origin)))
-    (and (sameRange (daysOf (a .duration)) (daysOf (b .duration)))
-    (and (sameRange (daysOf (a .end)) (daysOf (b .end))) (sameRange (powersOf (a .height)) (powersOf (b .height))))))
+sameTask a b = and (eqb (a .set) (b .set)) (sameRanges a b)
 
 unfoldable pub sameTasks : List Task → List Task → Bool
 sameTasks [] [] = true
@@ -65,23 +60,20 @@ unlessSame k ts NoPlan = Refused
 unlessSame k ts (Plan us) = if (sameTasks ts us) (After 1 us) (onePassMore (k us))
 
 -- at most n passes
-unfoldable pub settleWithin : ℕ → Sense → List Resource → List Task → Settled
-settleWithin zero sense qs ts = Unsettled
-settleWithin (suc n) sense qs ts = unlessSame (settleWithin n sense qs) ts (pass sense qs ts)
+unfoldable pub settleWithin : ℕ → Frame → List Task → Settled
+settleWithin zero f ts = Unsettled
+settleWithin (suc n) f ts = unlessSame (settleWithin n f) ts (pass f ts)
 
--- "all that could be removed: for every task the sum of high minus low over its four ranges, plus its number of resources less one"
-unfoldable pub width : Range → ℕ
-width s = natAbs (s .high -ℤ s .low)
-
+-- all that could be removed of a task: the sum of high minus low over its four ranges, plus its number of resources less one
 unfoldable pub room : Task → ℕ
 room t =
     width (daysOf (t .origin)) + width (daysOf (t .duration)) + width (daysOf (t .end)) + width (powersOf (t .height))
-    + (size 64 (t .set) - 1)
+    + (size setBits (t .set) - 1)
 
 unfoldable pub rooms : List Task → ℕ
 rooms [] = 0
 rooms (t ∷ ts) = room t + rooms ts
 
 -- the passes end: within one more than all that could be removed (the law `settle-ends`)
-unfoldable pub settle : Sense → List Resource → List Task → Settled
-settle sense qs ts = settleWithin (suc (rooms ts)) sense qs ts
+unfoldable pub settle : Frame → List Task → Settled
+settle f ts = settleWithin (suc (rooms ts)) f ts

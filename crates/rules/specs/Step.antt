@@ -1,7 +1,7 @@
 -- "Resource step, sense at least, resource r, limit L, day i": day by day and value by value, everything from the ranges that entered.
-use Prim.Native.Nat.{ℕ, zero, suc, _^_}
+use Prim.Native.Nat.{ℕ, _^_}
 use mathlib.Core.List.{List, [], _∷_, map}
-use mathlib.Core.Bool.{Bool, true, false, not}
+use mathlib.Core.Bool.{Bool, not}
 use lib.IntN.{ℤ, pos, _+ℤ_, _-ℤ_, negℤ}
 use lib.Signed.{leZ, ltZ}
 use lib.Dec.{eqb}
@@ -18,8 +18,9 @@ use Rattle.plan.specs.declared.Value.the-variants.{Origin, Duration, End, Heigh
 use Rattle.plan.specs.declared.Narrowed.{Narrowed}
 use Rattle.plan.specs.declared.Narrowed.the-variants.{Kept, RanOut}
 use Rattle.plan.specs.Days.{daysOf, spanOf}
-use Rattle.plan.specs.Powers.{powersOf, powerSpanOf, turned}
+use Rattle.plan.specs.Powers.{powersOf, powerSpanOf, negatedPowers}
 use Rattle.plan.specs.Sets.{has, only, without}
+use Rattle.rules.specs.Frame.{Frame, limitOn}
 use Rattle.rules.specs.Balance.{Outcome, each}
 use Rattle.rules.specs.Balance.Outcome.{NoPlan, Plan}
 
@@ -81,7 +82,7 @@ module _ (r : ℕ) where
 
     -- "All days and rules are joined: the new set or range keeps what every rule leaves."
     module _ (days : List ℤ) (t : Task) where
-      -- need: "origin within i - duration high + 1 .. i"; bar: "origins i - duration low + 1 .. i are barred"
+      -- need: "origin within i - duration high + 1 .. i"; bar: "origins i - duration low + 1 .. i .. are barred"
       unfoldable pub keepsOrigin : ℤ → Bool
       keepsOrigin v =
           all
@@ -147,13 +148,17 @@ atLeastStep r limit ts =
 
 -- "Sense at most is the same with every height and limit negated and each height's two ends swapped"
 unfoldable pub negated : Task → Task
-negated t = record { set = t .set; origin = t .origin; duration = t .duration; end = t .end; height = turned (t .height) }
+negated t = record { set = t .set; origin = t .origin; duration = t .duration; end = t .end; height = negatedPowers (t .height) }
 
 abbrev pub negatedPlan : Outcome → Outcome
 negatedPlan NoPlan = NoPlan
 negatedPlan (Plan ts) = Plan (map negated ts)
 
--- the resource step, for resource r with its limit on each day
-unfoldable pub resourceStep : Sense → ℕ → (ℤ → ℤ) → List Task → Outcome
-resourceStep AtLeast r limit ts = atLeastStep r limit ts
-resourceStep AtMost r limit ts = negatedPlan (atLeastStep r (λ i. negℤ (limit i)) (map negated ts))
+-- the step in either sense
+unfoldable pub senseStep : Sense → ℕ → (ℤ → ℤ) → List Task → Outcome
+senseStep AtLeast r limit ts = atLeastStep r limit ts
+senseStep AtMost r limit ts = negatedPlan (atLeastStep r (λ i. negℤ (limit i)) (map negated ts))
+
+-- the resource step of a plan, for the resource at place r
+unfoldable pub resourceStep : Frame → ℕ → List Task → Outcome
+resourceStep f r ts = senseStep (f .sense) r (limitOn f r) ts

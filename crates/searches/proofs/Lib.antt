@@ -1,10 +1,10 @@
 -- Why each search over stretches finds what it says.
 pub mod Parts
 pub mod Order
-pub mod Up
-pub mod Down
-pub mod Long
-pub mod Low
-pub mod Need
-pub mod Freed
-pub mod Halves
+pub mod Walks
+pub mod FirstFree
+pub mod LastFree
+pub mod FreeSpan
+pub mod Durations
+pub mod NeededDays
+pub mod LeastSlack

@@ -1,62 +1,98 @@
--- The days of a stretch, of a span of days, and of a stretch's part.
-use mathlib.Core.Path.{_≡_}
-use mathlib.Core.Bool.{Bool, true}
+-- The days of a stretch, of a span of days and of a stretch's part; the days of the parts that are hit.
+use mathlib.Core.Path.{_≡_, refl, sym, _∙_}
+use mathlib.Core.Bool.{Bool, true, false}
+use mathlib.Core.List.{List, [], _∷_}
 use lib.IntN.{ℤ}
 use lib.Signed.{leZ, ltZ, _≤ℤ_, _<ℤ_}
-use Rattle.integers.specs.Whole.{larger, smaller}
+use Rattle.integers.specs.Tests.{and, any}
 use Rattle.integers.proofs.Z.{z, maxz, minz, leZ-in, ltZ-in}
-use Rattle.integers.proofs.Tests.{and-first, and-second, and-in}
+use Rattle.integers.proofs.Tests.{clash, by-cases, same-test, and-first, and-second, and-in, or-left, any-first, any-later}
 use Rattle.stretches.specs.declared.Stretch.{Stretch}
 use Rattle.stretches.specs.View.{onDay}
+use Rattle.stretches.proofs.View.{on-out, on-in}
 use Rattle.searches.specs.declared.Days.{Days}
-use Rattle.searches.specs.Searches.{holds, partOf, OnPart}
+use Rattle.searches.specs.declared.Part.{Part}
+use Rattle.searches.specs.Searches.{holds, partOf, onPart, hitDays, Hit, TooLong}
 
-pub record On (s : Stretch) (i : ℤ) : Type 0 where
-  pub late : s .from .0 ≤ℤ i
-  pub early : i <ℤ s .to .0
+-- ---- two cases of an order
+pub lt-cases : {P : Type 0} (a b : ℤ) → (a <ℤ b → P) → (b ≤ℤ a → P) → P
+lt-cases a b f g = by-cases (ltZ a b) (λ e. f (omega z)) (λ e. g (omega z))
 
-pub on-out : (s : Stretch) (i : ℤ) → onDay i s ≡ true → On s i
-unfolding onDay
-on-out s i h =
-    let a : leZ (s .from .0) i ≡ true = and-first (leZ (s .from .0) i) (ltZ i (s .to .0)) h in
-    let b : ltZ i (s .to .0) ≡ true = and-second (leZ (s .from .0) i) (ltZ i (s .to .0)) h in
-    record { late = omega z; early = omega z }
+-- ---- day i is one of a .. b - 1
+pub record Held (a b i : ℤ) : Type 0 where
+  pub late : a ≤ℤ i
+  pub early : i <ℤ b
 
-pub on-in : (s : Stretch) (i : ℤ) → s .from .0 ≤ℤ i → i <ℤ s .to .0 → onDay i s ≡ true
-unfolding onDay
-on-in s i h k = and-in (leZ (s .from .0) i) (ltZ i (s .to .0)) (leZ-in (s .from .0) i h) (ltZ-in i (s .to .0) k)
+held-is : (a b i : ℤ) → and (leZ a i) (ltZ i b) ≡ true → Held a b i
+held-is a b i h =
+    let x : leZ a i ≡ true = and-first _ _ h in
+    let y : ltZ i b ≡ true = and-second (leZ a i) _ h in
+    omega z
 
-pub record Holds (w : Days) (i : ℤ) : Type 0 where
-  pub late : w .from .0 ≤ℤ i
-  pub early : i <ℤ w .to .0
+held-in : (a b i : ℤ) → a ≤ℤ i → i <ℤ b → and (leZ a i) (ltZ i b) ≡ true
+held-in a b i h k = and-in _ _ (leZ-in a i h) (ltZ-in i b k)
 
-pub holds-out : (w : Days) (i : ℤ) → holds w i ≡ true → Holds w i
+pub holds-is : (w : Days) (i : ℤ) → holds w i ≡ true → Held (w .from .0) (w .to .0) i
 unfolding holds
-holds-out w i h =
-    let a : leZ (w .from .0) i ≡ true = and-first (leZ (w .from .0) i) (ltZ i (w .to .0)) h in
-    let b : ltZ i (w .to .0) ≡ true = and-second (leZ (w .from .0) i) (ltZ i (w .to .0)) h in
-    record { late = omega z; early = omega z }
+holds-is w i = held-is (w .from .0) (w .to .0) i
 
 pub holds-in : (w : Days) (i : ℤ) → w .from .0 ≤ℤ i → i <ℤ w .to .0 → holds w i ≡ true
 unfolding holds
-holds-in w i h k = and-in (leZ (w .from .0) i) (ltZ i (w .to .0)) (leZ-in (w .from .0) i h) (ltZ-in i (w .to .0) k)
+holds-in w i = held-in (w .from .0) (w .to .0) i
 
-pub record Inside (w : Days) (s : Stretch) (i : ℤ) : Type 0 where
-  pub on : onDay i s ≡ true
-  pub late : w .from .0 ≤ℤ i
-  pub early : i <ℤ w .to .0
+-- ---- one of a part's days, and the part is hit
+pub record OnPart (p : Part) (i : ℤ) : Type 0 where
+  pub hit : p .hit ≡ true
+  pub late : p .from .0 ≤ℤ i
+  pub early : i <ℤ p .to .0
 
-pub part-out : (w : Days) (s : Stretch) (b : Bool) (i : ℤ) → OnPart (partOf w s b) i → Inside w s i
-part-out w s b i o =
-    let x : larger (s .from .0) (w .from .0) ≤ℤ i = o .late in
-    let y : i <ℤ smaller (s .to .0) (w .to .0) = o .early in
-    record {
-      on = on-in s i (omega (z, maxz (s .from .0) (w .from .0))) (omega (z, minz (s .to .0) (w .to .0)));
-      late = omega (z, maxz (s .from .0) (w .from .0));
-      early = omega (z, minz (s .to .0) (w .to .0));
-    }
+pub on-part-is : (p : Part) (i : ℤ) → onPart i p ≡ true → OnPart p i
+unfolding onPart
+on-part-is p i h =
+    let k = held-is (p .from .0) (p .to .0) i (and-second (p .hit) _ h) in
+    record { hit = and-first _ _ h; late = k .late; early = k .early }
 
-pub part-in : (w : Days) (s : Stretch) (b : Bool) (i : ℤ) → b ≡ true → onDay i s ≡ true → w .from .0 ≤ℤ i → i <ℤ w .to .0 → OnPart (partOf w s b) i
-part-in w s b i h o k l =
-    let x = on-out s i o in
-    record { hit = h; late = omega (z, maxz (s .from .0) (w .from .0)); early = omega (z, minz (s .to .0) (w .to .0)) }
+pub on-part-in : (p : Part) (i : ℤ) → p .hit ≡ true → p .from .0 ≤ℤ i → i <ℤ p .to .0 → onPart i p ≡ true
+unfolding onPart
+on-part-in p i h k l = and-in _ _ h (held-in (p .from .0) (p .to .0) i k l)
+
+-- a stretch's days among w's
+pub part-on : (w : Days) (s : Stretch) (b : Bool) (i : ℤ) → onPart i (partOf w s b) ≡ and (onDay i s) (and (holds w i) b)
+part-on w s b i =
+    let f = maxz (s .from .0) (w .from .0) in
+    let g = minz (s .to .0) (w .to .0) in
+    same-test _ _
+    (λ e.
+    let o = on-part-is (partOf w s b) i e in
+    and-in _ _ (on-in s i (omega (z, o .late)) (omega (z, o .early))) (and-in _ _ (holds-in w i (omega (z, o .late)) (omega (z, o .early))) (o .hit)))
+    (λ e.
+    let k = and-second (onDay i s) _ e in
+    let o = on-out s i (and-first _ _ e) in
+    let m = holds-is w i (and-first _ _ k) in
+    on-part-in (partOf w s b) i (and-second (holds w i) _ k) (omega (z, o .late, m .late)) (omega (z, o .early, m .early)))
+
+-- ---- the days of the parts that are hit
+pub hit-none : (part : Stretch → Part) (i : ℤ) → hitDays part [] i ≡ true → ⊥
+unfolding hitDays any
+hit-none part i h = clash false h refl
+
+module _ (part : Stretch → Part) (i : ℤ) (s : Stretch) (ss : List Stretch) where
+  pub hit-first : onPart i (part s) ≡ true → hitDays part (s ∷ ss) i ≡ true
+  unfolding hitDays
+  hit-first = any-first (λ u. onPart i (part u)) s ss
+
+  pub hit-later : hitDays part ss i ≡ true → hitDays part (s ∷ ss) i ≡ true
+  unfolding hitDays
+  hit-later = any-later (λ u. onPart i (part u)) s ss
+
+  pub hit-cases : {C : Type 0} → hitDays part (s ∷ ss) i ≡ true → (onPart i (part s) ≡ true → C) → (hitDays part ss i ≡ true → C) → C
+  unfolding hitDays any
+  hit-cases h f g = by-cases (onPart i (part s)) f (λ e. g (sym (or-left _ _ e) ∙ h))
+
+-- ---- a wider test of days hits as much
+module _ {p q : ℤ → Bool} (f : (i : ℤ) → p i ≡ true → q i ≡ true) where
+  pub hit-so : {d v : ℤ} → Hit p d v → Hit q d v
+  hit-so h = record { day = h .day; late = h .late; early = h .early; bad = f (h .day) (h .bad) }
+
+  pub long-so : {w : Days} {v : ℤ} → TooLong p w v → TooLong q w v
+  long-so h = record { day = h .day; bad = f (h .day) (h .bad); over = h .over }

@@ -3,16 +3,19 @@ use mathlib.Core.Path.{_≡_}
 use mathlib.Core.Bool.{Bool, true, not}
 use mathlib.Core.List.{List}
 use Prim.Native.Nat.{ℕ, _≤_, _<_}
-use lib.IntN.{ℤ, pos, negsuc, _+ℤ_, _-ℤ_, predℤ}
+use lib.IntN.{ℤ, pos, _+ℤ_, _-ℤ_, predℤ}
 use lib.ListN.{length, getD}
 use lib.Signed.{_≤ℤ_, _<ℤ_, leZ, ltZ}
-use Rattle.integers.specs.Tests.{if, and}
+use Rattle.integers.specs.Tests.{if, and, any}
 use Rattle.integers.specs.Whole.{larger, smaller}
+use Rattle.integers.specs.Hull.{Range, range}
+use Rattle.integers.specs.Ends.{Within, InEnds}
 use Rattle.plan.specs.declared.Power.{Power}
 use Rattle.plan.specs.declared.Span.{Span}
-use Rattle.plan.specs.Days.{day}
+use Rattle.plan.specs.Days.{day, dayLow, dayHigh, dayEnds, durationHigh, durationEnds}
 use Rattle.stretches.specs.declared.Stretch.{Stretch}
 use Rattle.stretches.specs.View.{noStretch, onDay}
+use Rattle.stretches.specs.Tells.{Ordered}
 use Rattle.searches.specs.declared.Days.{Days}
 use Rattle.searches.specs.declared.Reach.{Reach}
 use Rattle.searches.specs.declared.Part.{Part}
@@ -28,27 +31,31 @@ partOf w s b =
 
 -- barred: too little slack, and the stretch is none of the task's sure days
 abbrev pub barredPart : Reach → Stretch → Part
-barredPart x s = partOf (x .days) s (and (ltZ (s .slack .0) (x .under .0)) (not (holds (x .sure) (s .from .0))))
+barredPart x s = partOf (x .days) s (and (ltZ (s .slack .0) (x .bar .0)) (not (holds (x .sure) (s .from .0))))
 
 -- needed: less to spare than a height of h gives
 abbrev pub neededPart : Days → Power → Stretch → Part
 neededPart w h s = partOf w s (ltZ (s .tight .0) (h .0))
 
 -- day i is one of the part's, and the part is hit
-pub record OnPart (p : Part) (i : ℤ) : Type 0 where
-  pub hit : p .hit ≡ true
-  pub late : p .from .0 ≤ℤ i
-  pub early : i <ℤ p .to .0
+unfoldable pub onPart : ℤ → Part → Bool
+onPart i p = and (p .hit) (and (leZ (p .from .0) i) (ltZ i (p .to .0)))
 
-pub record Found (part : Stretch → Part) (ss : List Stretch) (i : ℤ) : Type 0 where
-  pub at : ℕ
-  pub inside : at < length ss
-  pub day : OnPart (part (getD ss at noStretch)) i
+-- the days of the parts that are hit
+unfoldable pub hitDays : (Stretch → Part) → List Stretch → ℤ → Bool
+hitDays part ss i = any (λ s. onPart i (part s)) ss
 
--- the days that pass the test q are those of the parts that are hit
-pub record Told (part : Stretch → Part) (ss : List Stretch) (q : ℤ → Bool) : Type 0 where
-  pub right : (k : ℕ) → k < length ss → (i : ℤ) → OnPart (part (getD ss k noStretch)) i → q i ≡ true
-  pub whole : (i : ℤ) → q i ≡ true → Found part ss i
+-- the stretches tell the test q: the days that pass it are those
+abbrev pub Told : (Stretch → Part) → List Stretch → (ℤ → Bool) → Type 0
+Told part ss q = (i : ℤ) → q i ≡ hitDays part ss i
+
+-- WHAT A SEARCH PROMISES: P of every test of days that the stretches tell
+abbrev pub ForTests : (Stretch → Part) → List Stretch → ((ℤ → Bool) → Type 0) → Type 0
+ForTests part ss P = (q : ℤ → Bool) → Told part ss q → P q
+
+-- of the days barred to a task, where the stretches stand in order
+abbrev pub ForBars : Reach → List Stretch → ((ℤ → Bool) → Type 0) → Type 0
+ForBars x ss P = Ordered ss → ForTests (barredPart x) ss P
 
 -- ---- free values: no day of v .. v + d - 1 passes q
 pub record Hit (q : ℤ → Bool) (d v : ℤ) : Type 0 where
@@ -82,37 +89,34 @@ pub record Freed (q : ℤ → Bool) (d : ℤ) (s out : Span) : Type 0 where
 abbrev pub earlier : ℤ → Span → Span
 earlier d s = record { low = day (s .low .0 -ℤ d); high = day (s .high .0 -ℤ d) }
 
+-- the same of ends
+abbrev pub FreedEnds : (ℤ → Bool) → ℤ → Span → Span → Type 0
+FreedEnds q d s out = Freed q d (earlier d s) (earlier d out)
+
 abbrev pub later : ℤ → Span → Span
 later d s = record { low = day (s .low .0 +ℤ d); high = day (s .high .0 +ℤ d) }
 
--- ---- durations: on the days a .. b - 1 a duration of more days than this covers day i
-abbrev pub room : ℤ → ℤ → ℤ → ℤ
-room a b i = larger (i -ℤ a) ((b -ℤ i) -ℤ pos 1)
+-- ---- durations: among the days w a duration of more days than this covers day i
+abbrev pub room : Days → ℤ → ℤ
+room w i = larger (i -ℤ w .from .0) ((w .to .0 -ℤ i) -ℤ pos 1)
 
 -- v covers some day that passes q wherever it lies
-pub record TooLong (q : ℤ → Bool) (a b v : ℤ) : Type 0 where
+pub record TooLong (q : ℤ → Bool) (w : Days) (v : ℤ) : Type 0 where
   pub day : ℤ
   pub bad : q day ≡ true
-  pub over : room a b day <ℤ v
+  pub over : room w day <ℤ v
 
 -- r is the longest duration up to m that is not too long
-pub record Longest (q : ℤ → Bool) (a b m r : ℤ) : Type 0 where
+pub record Longest (q : ℤ → Bool) (w : Days) (m r : ℤ) : Type 0 where
   pub most : r ≤ℤ m
-  pub cut : (v : ℤ) → r <ℤ v → v ≤ℤ m → TooLong q a b v
-  pub kept : (v : ℤ) → v ≤ℤ r → TooLong q a b v → ⊥
+  pub cut : (v : ℤ) → r <ℤ v → v ≤ℤ m → TooLong q w v
+  pub kept : (v : ℤ) → v ≤ℤ r → TooLong q w v → ⊥
 
--- ---- needs: s runs from the first day that passes q to past the last; where there is none it is b and a
-pub record Needed (q : ℤ → Bool) (a b : ℤ) (s : Days) : Type 0 where
+-- ---- needs: s runs from the first day that passes q to past the last; where there is none it is w the other way round
+pub record Needed (q : ℤ → Bool) (w s : Days) : Type 0 where
   pub between : (i : ℤ) → q i ≡ true → (s .from .0 ≤ℤ i) × (i <ℤ s .to .0)
-  pub first : s .from .0 <ℤ b → q (s .from .0) ≡ true
-  pub last : a <ℤ s .to .0 → q (predℤ (s .to .0)) ≡ true
-
--- both ends of s lie among the days w
-pub record Between (w s : Days) : Type 0 where
-  pub least : w .from .0 ≤ℤ s .from .0
-  pub most : s .from .0 ≤ℤ w .to .0
-  pub least-past : w .from .0 ≤ℤ s .to .0
-  pub most-past : s .to .0 ≤ℤ w .to .0
+  pub first : s .from .0 <ℤ w .to .0 → q (s .from .0) ≡ true
+  pub last : w .from .0 <ℤ s .to .0 → q (predℤ (s .to .0)) ≡ true
 
 -- ---- slack: some day of w stands in a stretch of slack x
 pub record Slack (ss : List Stretch) (w : Days) (x : ℤ) : Type 0 where
@@ -134,30 +138,41 @@ pub record Begun (ss : List Stretch) (d : ℤ) (low high : ℕ) : Type 0 where
   pub before : (k : ℕ) → k < low → k < length ss → (getD ss k noStretch) .from .0 <ℤ d
   pub after : (k : ℕ) → high ≤ k → k < length ss → d ≤ℤ (getD ss k noStretch) .from .0
 
--- ---- what the code asks and its leaves compute
-pub record Near (x : ℤ) : Type 0 where
-  pub over : negsuc 199999 ≤ℤ x
-  pub under : x ≤ℤ pos 200000
+-- where they stand in order, n of them begin before it
+abbrev pub BegunCount : List Stretch → ℤ → ℕ → Type 0
+BegunCount ss d n = Ordered ss → Begun ss d n n
 
-pub record Close (x : ℤ) : Type 0 where
-  pub over : negsuc 109999 ≤ℤ x
-  pub under : x ≤ℤ pos 110000
+-- ---- what the code asks: how far its numbers reach, from the ends of days and of durations
+-- from where to where a search may lead: twice as far as any day
+abbrev pub nearEnds : Range
+nearEnds = range (dayLow +ℤ dayLow) (dayHigh +ℤ dayHigh)
 
--- days in their ends, the first not past the last
-pub record Dated (w : Days) : Type 0 where
-  pub floor : negsuc 99999 ≤ℤ w .from .0
-  pub top : w .to .0 ≤ℤ pos 100000
-  pub full : w .from .0 ≤ℤ w .to .0
+-- an end that a need has moved: a duration past any day
+abbrev pub closeEnds : Range
+closeEnds = range (dayLow -ℤ durationHigh) (dayHigh +ℤ durationHigh)
 
+-- both ends of s lie within e, whichever is the higher
+pub record BothIn (e s : Range) : Type 0 where
+  pub low : Within e (s .low)
+  pub high : Within e (s .high)
+
+abbrev pub daysIn : Days → Range
+daysIn w = range (w .from .0) (w .to .0)
+
+-- days within their ends, the first not past the last
+abbrev pub Dated : Days → Type 0
+Dated w = InEnds dayEnds (daysIn w)
+
+-- a part of such days; it may have none
 pub record Placed (p : Part) : Type 0 where
-  pub floor : negsuc 99999 ≤ℤ p .from .0
-  pub top : p .to .0 ≤ℤ pos 100000
+  pub least : dayLow ≤ℤ p .from .0
+  pub most : p .to .0 ≤ℤ dayHigh
 
--- a number of days in its ends
-pub record Short (d : ℤ) : Type 0 where
-  pub none : pos 0 ≤ℤ d
-  pub most : d ≤ℤ pos 10000
+-- a number of days within its ends
+abbrev pub Short : ℤ → Type 0
+Short d = Within durationEnds d
 
+-- ---- what its leaves compute
 -- v, or the first day past the part if the part is hit and has days from v on
 abbrev pub past : Part → ℤ → ℤ
 past p v = if (and (p .hit) (and (ltZ (p .from .0) (p .to .0)) (ltZ v (p .to .0)))) (p .to .0) v
@@ -166,10 +181,10 @@ past p v = if (and (p .hit) (and (ltZ (p .from .0) (p .to .0)) (ltZ v (p .to .0)
 abbrev pub back : Part → ℤ → ℤ → ℤ
 back p d v = if (and (p .hit) (and (ltZ (p .from .0) (p .to .0)) (ltZ (p .from .0) (v +ℤ d)))) (p .from .0 -ℤ d) v
 
--- half the days a .. b - 1, rounded down
-pub record Half (a b h : ℤ) : Type 0 where
-  pub under : (h +ℤ h) ≤ℤ (b -ℤ a)
-  pub over : (b -ℤ a) ≤ℤ ((h +ℤ h) +ℤ pos 1)
+-- half as many days as w has, rounded down
+pub record Half (w : Days) (h : ℤ) : Type 0 where
+  pub under : (h +ℤ h) ≤ℤ (w .to .0 -ℤ w .from .0)
+  pub over : (w .to .0 -ℤ w .from .0) ≤ℤ ((h +ℤ h) +ℤ pos 1)
 
 -- the longest duration that misses one day of the part, if the part is hit and that is shorter
 abbrev pub shorter : Part → Days → ℤ → ℤ → ℤ
@@ -188,6 +203,4 @@ joined p s =
 -- x, or the stretch's slack where that is lower and one of its days is among w's
 abbrev pub lowered : Stretch → Days → Power → Power
 lowered s w x =
-    if (ltZ (larger (s .from .0) (w .from .0)) (smaller (s .to .0) (w .to .0)))
-    (if (ltZ (s .slack .0) (x .0)) (s .slack) x)
-    x
+    if (and (ltZ (larger (s .from .0) (w .from .0)) (smaller (s .to .0) (w .to .0))) (ltZ (s .slack .0) (x .0))) (s .slack) x

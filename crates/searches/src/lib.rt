@@ -2,19 +2,23 @@
 // no day hits, the longest duration, the least slack, the first and the last needed day, how many stretches begin before a day.
 // Cost: the stretches, once for each search (of those that begin before a day, by halves); no loop runs over days.
 ghost use mathlib.Core.Path.{_≡_};
-ghost use mathlib.Core.Bool.{Bool, true, not};
+ghost use mathlib.Core.Bool.{not};
 ghost use Prim.Native.Nat.{_≤_};
-ghost use lib.IntN.{ℤ, pos};
+ghost use lib.IntN.{pos};
 ghost use lib.Signed.{ltZ, _≤ℤ_};
 ghost use lib.ListN.{length};
 ghost use Rattle.integers.specs.Tests.{and};
+ghost use Rattle.integers.specs.Ends.{Within};
+ghost use Rattle.plan.specs.Days.{daysOf};
 ghost use Rattle.stretches.specs.View.{stretchesOf};
-ghost use Rattle.stretches.specs.Tells.{Ordered};
-ghost use Rattle.searches.specs.Searches.{holds, partOf, barredPart, neededPart, Told, FirstFree, LastFree, Freed, Longest, Needed, Between, Least, Begun, Near, Close, Dated, Placed, Short, Half, past, back, shorter, joined, lowered, earlier};
+ghost use Rattle.searches.specs.Searches.{ForTests, ForBars, FirstFree, LastFree, Freed, FreedEnds, Longest, Needed, Least, BegunCount};
+ghost use Rattle.searches.specs.Searches.{nearEnds, closeEnds, BothIn, daysIn, Dated, Placed, Short, Half};
+ghost use Rattle.searches.specs.Searches.{holds, partOf, barredPart, neededPart, past, back, shorter, joined, lowered};
 use plan::Day;
 use plan::Power;
 use plan::Span;
 use stretches::Stretch;
+use stretches::StretchRow;
 
 // The days from .. to - 1.
 pub struct Days {
@@ -28,7 +32,7 @@ impl Days {
     {
         let from = self.from;
         let to = self.to;
-        if from.until(d) { d.before(to) } else { false }
+        from.not_after(d) && d.before(to)
     }
 
     // Those of the stretch's days that are among these.
@@ -49,20 +53,17 @@ impl Days {
 pub struct Reach {
     pub days: Days,
     pub sure: Days,
-    pub under: Power,
+    pub bar: Power,
 }
 
 impl Reach {
-    // A stretch of so little slack is barred, unless it is one of the sure days: no shortfall, so none of them is.
+    // So little slack bars a stretch, unless it is one of the sure days: with no shortfall none of those is barred. One of its days
+    // tells for all: no stretch runs across the first or the last sure day.
     fn bars(self, from: Day, slack: Power) -> bool
-        ensures { λ r. ⌜ r ≡ and (ltZ (slack .0) (self .under .0)) (not (holds (self .sure) (from .0))) ⌝ }
+        ensures { λ r. ⌜ r ≡ and (ltZ (slack .0) (self .bar .0)) (not (holds (self .sure) (from .0))) ⌝ }
     {
         let sure = self.sure;
-        if slack.below(self.under) {
-            !sure.holds(from)
-        } else {
-            false
-        }
+        slack.below(self.bar) && !sure.holds(from)
     }
 
     fn barred(self, s: Stretch) -> Part
@@ -88,12 +89,8 @@ impl Part {
     {
         let from = self.from;
         let to = self.to;
-        if self.hit {
-            if from.before(to) {
-                if v.before(to) { to } else { v }
-            } else {
-                v
-            }
+        if self.hit && (from.before(to) && v.before(to)) {
+            to
         } else {
             v
         }
@@ -101,27 +98,20 @@ impl Part {
 
     // v, or the last value whose d days end before the part.
     fn back(self, d: Day, v: Day) -> Day
-        requires { ⌜ Placed self × Short (d .0) × Near (v .0) ⌝ }
+        requires { ⌜ Placed self × Short (d .0) × Within nearEnds (v .0) ⌝ }
         ensures { λ r. ⌜ r .0 ≡ back self (d .0) (v .0) ⌝ }
     {
         let from = self.from;
         let to = self.to;
-        if self.hit {
-            if from.before(to) {
-                if from.before(v.plus(d)) {
-                    from.minus(d)
-                } else {
-                    v
-                }
-            } else {
-                v
-            }
+        if self.hit && (from.before(to) && from.before(v.plus(d))) {
+            from.minus(d)
         } else {
             v
         }
     }
 
-    // r, or the longest duration among the days w that misses one of the part's days.
+    // r, or the longest duration among the days w that misses one of the part's days: it ends before the part's first day, begins past
+    // its last, or lies on one side of the middle where the part holds that.
     fn shorter(self, w: Days, half: Day, r: Day) -> Day
         requires { ⌜ Placed self × Dated w ⌝ }
         ensures { λ x. ⌜ x .0 ≡ shorter self w (half .0) (r .0) ⌝ }
@@ -130,14 +120,10 @@ impl Part {
         let to = self.to;
         let first = w.from;
         let end = w.to;
-        if self.hit {
-            if from.before(to) {
-                let before = from.minus(first);
-                let after = end.minus(to);
-                r.smaller(half.larger(before.larger(after)))
-            } else {
-                r
-            }
+        if self.hit && from.before(to) {
+            let before = from.minus(first);
+            let after = end.minus(to);
+            r.smaller(half.larger(before.larger(after)))
         } else {
             r
         }
@@ -151,14 +137,10 @@ impl Part {
         let to = self.to;
         let first = s.from;
         let end = s.to;
-        if self.hit {
-            if from.before(to) {
-                Days {
-                    from: first.smaller(from),
-                    to: end.larger(to),
-                }
-            } else {
-                s
+        if self.hit && from.before(to) {
+            Days {
+                from: first.smaller(from),
+                to: end.larger(to),
             }
         } else {
             s
@@ -181,8 +163,8 @@ fn lowered(s: Stretch, w: Days, x: Power) -> Power
     let from = s.from;
     let to = s.to;
     let slack = s.slack;
-    if from.larger(w.from).before(to.smaller(w.to)) {
-        if slack.below(x) { slack } else { x }
+    if from.larger(w.from).before(to.smaller(w.to)) && slack.below(x) {
+        slack
     } else {
         x
     }
@@ -191,7 +173,7 @@ fn lowered(s: Stretch, w: Days, x: Power) -> Power
 // Half of so many days, rounded down.
 fn half_of(w: Days) -> Day
     requires { ⌜ Dated w ⌝ }
-    ensures { λ r. ⌜ Half (w .from .0) (w .to .0) (r .0) ⌝ }
+    ensures { λ r. ⌜ Half w (r .0) ⌝ }
 {
     let from = w.from;
     let to = w.to;
@@ -200,18 +182,20 @@ fn half_of(w: Days) -> Day
 }
 
 // The first value from low on that no barred day hits.
-fn first_free(ss: &[[i64; 4]], x: Reach, d: Day, low: Day) -> Day
-    requires { ⌜ Dated (x .days) × Short (d .0) × (pos 1 ≤ℤ d .0) × Near (low .0) ⌝ }
-    ensures { λ r. ⌜ Near (r .0) × ((q : ℤ → Bool) → Told (barredPart x) (stretchesOf (now (ss .entry))) q → Ordered (stretchesOf (now (ss .entry))) → FirstFree q (d .0) (low .0) (r .0)) ⌝ }
+fn first_free(ss: &[StretchRow], x: Reach, d: Day, low: Day) -> Day
+    requires { ⌜ Dated (x .days) × Short (d .0) × (pos 1 ≤ℤ d .0) × Within nearEnds (low .0) ⌝ }
+    ensures { λ r. ⌜ Within nearEnds (r .0) × ForBars x (stretchesOf (now (ss .entry))) (λ q. FirstFree q (d .0) (low .0) (r .0)) ⌝ }
 {
     let mut v = low;
     let mut k: usize = 0;
     while k < ss.len() {
         let p = x.barred(stretches::stretch_at(ss, k));
         let from = p.from;
-        if v.plus(d).until(from) {
+        // This part and all that follow begin past the days of v, and those before it end by v: nothing hits v.
+        if v.plus(d).not_after(from) {
             return v;
         }
+        // A part that begins before the days of v end hits every value up to its last day.
         v = p.past(v);
         k += 1;
     }
@@ -219,18 +203,20 @@ fn first_free(ss: &[[i64; 4]], x: Reach, d: Day, low: Day) -> Day
 }
 
 // The last value up to high that no barred day hits.
-fn last_free(ss: &[[i64; 4]], x: Reach, d: Day, high: Day) -> Day
-    requires { ⌜ Dated (x .days) × Short (d .0) × (pos 1 ≤ℤ d .0) × Near (high .0) ⌝ }
-    ensures { λ r. ⌜ Near (r .0) × ((q : ℤ → Bool) → Told (barredPart x) (stretchesOf (now (ss .entry))) q → Ordered (stretchesOf (now (ss .entry))) → LastFree q (d .0) (high .0) (r .0)) ⌝ }
+fn last_free(ss: &[StretchRow], x: Reach, d: Day, high: Day) -> Day
+    requires { ⌜ Dated (x .days) × Short (d .0) × (pos 1 ≤ℤ d .0) × Within nearEnds (high .0) ⌝ }
+    ensures { λ r. ⌜ Within nearEnds (r .0) × ForBars x (stretchesOf (now (ss .entry))) (λ q. LastFree q (d .0) (high .0) (r .0)) ⌝ }
 {
     let mut v = high;
     let mut k: usize = ss.len();
     while 0 < k {
         let p = x.barred(stretches::stretch_at(ss, k - 1));
         let to = p.to;
-        if to.until(v) {
+        // This part and all before it end by v, and those after it begin past the days of v: nothing hits v.
+        if to.not_after(v) {
             return v;
         }
+        // A part that ends past v hits every value down to d - 1 days before its first.
         v = p.back(d, v);
         k -= 1;
     }
@@ -238,16 +224,18 @@ fn last_free(ss: &[[i64; 4]], x: Reach, d: Day, high: Day) -> Day
 }
 
 // What bars leave of a range of origins, for a duration of d days: a low end above the high end where it is nothing.
-pub fn free_span(ss: &[[i64; 4]], x: Reach, d: Day, s: Span) -> Span
-    requires { ⌜ Dated (x .days) × Short (d .0) × Near (s .low .0) × Near (s .high .0) ⌝ }
-    ensures { λ r. ⌜ (Near (r .low .0) × Near (r .high .0)) × ((q : ℤ → Bool) → Told (barredPart x) (stretchesOf (now (ss .entry))) q → Ordered (stretchesOf (now (ss .entry))) → Freed q (d .0) s r) ⌝ }
+pub fn free_span(ss: &[StretchRow], x: Reach, d: Day, s: Span) -> Span
+    requires { ⌜ Dated (x .days) × Short (d .0) × BothIn nearEnds (daysOf s) ⌝ }
+    ensures { λ r. ⌜ BothIn nearEnds (daysOf r) × ForBars x (stretchesOf (now (ss .entry))) (λ q. Freed q (d .0) s r) ⌝ }
 {
     let low = s.low;
     let high = s.high;
-    if d.until(Day::shortest()) {
+    // No day can hit a task of no days.
+    if d.not_after(Day::SHORTEST) {
         return s;
     }
     let first = first_free(ss, x, d, low);
+    // Every value of the range is hit: there is no last free one to look for.
     if high.before(first) {
         return Span {
             low: first,
@@ -262,9 +250,9 @@ pub fn free_span(ss: &[[i64; 4]], x: Reach, d: Day, s: Span) -> Span
 }
 
 // What bars leave of a range of ends: an end less d days is an origin.
-fn free_ends(ss: &[[i64; 4]], x: Reach, d: Day, s: Span) -> Span
-    requires { ⌜ Dated (x .days) × Short (d .0) × Close (s .low .0) × Close (s .high .0) ⌝ }
-    ensures { λ r. ⌜ ((q : ℤ → Bool) → Told (barredPart x) (stretchesOf (now (ss .entry))) q → Ordered (stretchesOf (now (ss .entry))) → Freed q (d .0) (earlier (d .0) s) (earlier (d .0) r)) ⌝ }
+fn free_ends(ss: &[StretchRow], x: Reach, d: Day, s: Span) -> Span
+    requires { ⌜ Dated (x .days) × Short (d .0) × BothIn closeEnds (daysOf s) ⌝ }
+    ensures { λ r. ⌜ ForBars x (stretchesOf (now (ss .entry))) (λ q. FreedEnds q (d .0) s r) ⌝ }
 {
     let low = s.low;
     let high = s.high;
@@ -285,33 +273,10 @@ fn free_ends(ss: &[[i64; 4]], x: Reach, d: Day, s: Span) -> Span
     }
 }
 
-// The same two ends.
-fn same_span(a: Span, b: Span) -> bool
-    ensures { λ r. ⌜ (r ≡ true → a ≡ b) ⌝ }
-{
-    let low = a.low;
-    let high = a.high;
-    let least = b.low;
-    let most = b.high;
-    if low.until(least) {
-        if least.until(low) {
-            if high.until(most) {
-                most.until(high)
-            } else {
-                false
-            }
-        } else {
-            false
-        }
-    } else {
-        false
-    }
-}
-
-// What bars leave of a range of ends, where o is what they leave of the origins s: most often the ends are the origins d days later.
-pub fn ends_after(ss: &[[i64; 4]], x: Reach, d: Day, end: Span, s: Span, o: Span) -> Span
-    requires { ⌜ Dated (x .days) × Short (d .0) × (Close (end .low .0) × Close (end .high .0)) × Near (o .low .0) × Near (o .high .0) ⌝ }
-    ensures { λ r. ⌜ ((q : ℤ → Bool) → Told (barredPart x) (stretchesOf (now (ss .entry))) q → Ordered (stretchesOf (now (ss .entry))) → Freed q (d .0) s o → Freed q (d .0) (earlier (d .0) end) (earlier (d .0) r)) ⌝ }
+// What bars leave of a range of ends, where o is what they leave of the origins s.
+pub fn ends_after(ss: &[StretchRow], x: Reach, d: Day, end: Span, s: Span, o: Span) -> Span
+    requires { ⌜ Dated (x .days) × Short (d .0) × BothIn closeEnds (daysOf end) × BothIn nearEnds (daysOf o) ⌝ }
+    ensures { λ r. ⌜ ForBars x (stretchesOf (now (ss .entry))) (λ q. Freed q (d .0) s o → FreedEnds q (d .0) end r) ⌝ }
 {
     let low = end.low;
     let high = end.high;
@@ -319,7 +284,8 @@ pub fn ends_after(ss: &[[i64; 4]], x: Reach, d: Day, end: Span, s: Span, o: Span
         low: low.minus(d),
         high: high.minus(d),
     };
-    if same_span(moved, s) {
+    // Most often the ends are the origins d days later, and so is what is left of them.
+    if moved.is(s) {
         let first = o.low;
         let last = o.high;
         return Span {
@@ -330,18 +296,20 @@ pub fn ends_after(ss: &[[i64; 4]], x: Reach, d: Day, end: Span, s: Span, o: Span
     free_ends(ss, x, d, end)
 }
 
-// The longest duration up to most that misses a day of every barred part. Half the reach always does.
-pub fn longest(ss: &[[i64; 4]], x: Reach, most: Day) -> Day
+// The longest duration up to most that misses a day of every barred part.
+pub fn longest(ss: &[StretchRow], x: Reach, most: Day) -> Day
     requires { ⌜ Dated (x .days) ⌝ }
-    ensures { λ r. ⌜ ((q : ℤ → Bool) → Told (barredPart x) (stretchesOf (now (ss .entry))) q → Longest q (x .days .from .0) (x .days .to .0) (most .0) (r .0)) ⌝ }
+    ensures { λ r. ⌜ ForTests (barredPart x) (stretchesOf (now (ss .entry))) (λ q. Longest q (x .days) (most .0) (r .0)) ⌝ }
 {
     let w = x.days;
     let half = half_of(w);
-    if most.until(half) {
+    // Half the reach is always enough: before or after any one day there is room for it.
+    if most.not_after(half) {
         return most;
     }
     let mut r = most;
     let mut k: usize = 0;
+    // Each barred stretch leaves what fits before it or after it, so all of them leave the least of those.
     while k < ss.len() {
         let p = x.barred(stretches::stretch_at(ss, k));
         r = p.shorter(w, half, r);
@@ -351,16 +319,18 @@ pub fn longest(ss: &[[i64; 4]], x: Reach, most: Day) -> Day
 }
 
 // The least slack on the days w, up to most.
-pub fn least_slack(ss: &[[i64; 4]], w: Days, most: Power) -> Power
+pub fn least_slack(ss: &[StretchRow], w: Days, most: Power) -> Power
     ensures { λ x. ⌜ Least (stretchesOf (now (ss .entry))) w (most .0) (x .0) ⌝ }
 {
     let from = w.from;
     let to = w.to;
-    if to.until(from) {
+    // No day, so none that is lower.
+    if to.not_after(from) {
         return most;
     }
     let mut x = most;
     let mut k: usize = 0;
+    // Every day of w lies on a stretch or is one that no rule speaks of, and a stretch outside w lowers nothing.
     while k < ss.len() {
         x = lowered(stretches::stretch_at(ss, k), w, x);
         k += 1;
@@ -369,9 +339,9 @@ pub fn least_slack(ss: &[[i64; 4]], w: Days, most: Power) -> Power
 }
 
 // From the first day of w on which a height of h is needed to past the last; w's ends the other way round where there is none.
-pub fn needed_days(ss: &[[i64; 4]], w: Days, h: Power) -> Days
+pub fn needed_days(ss: &[StretchRow], w: Days, h: Power) -> Days
     requires { ⌜ Dated w ⌝ }
-    ensures { λ r. ⌜ Between w r × ((q : ℤ → Bool) → Told (neededPart w h) (stretchesOf (now (ss .entry))) q → Needed q (w .from .0) (w .to .0) r) ⌝ }
+    ensures { λ r. ⌜ BothIn (daysIn w) (daysIn r) × ForTests (neededPart w h) (stretchesOf (now (ss .entry))) (λ q. Needed q w r) ⌝ }
 {
     let first = w.from;
     let end = w.to;
@@ -380,6 +350,7 @@ pub fn needed_days(ss: &[[i64; 4]], w: Days, h: Power) -> Days
         to: first,
     };
     let mut k: usize = 0;
+    // The first day of all parts is the least of their first days, past the last the largest of their ends.
     while k < ss.len() {
         let p = needed_part(w, h, stretches::stretch_at(ss, k));
         r = p.joined(r);
@@ -389,8 +360,8 @@ pub fn needed_days(ss: &[[i64; 4]], w: Days, h: Power) -> Days
 }
 
 // How many stretches begin before day d.
-pub fn begun(ss: &[[i64; 4]], d: Day) -> usize
-    ensures { λ r. ⌜ (r ≤ length (now (ss .entry))) × (Ordered (stretchesOf (now (ss .entry))) → Begun (stretchesOf (now (ss .entry))) (d .0) r r) ⌝ }
+pub fn begun(ss: &[StretchRow], d: Day) -> usize
+    ensures { λ r. ⌜ (r ≤ length (now (ss .entry))) × BegunCount (stretchesOf (now (ss .entry))) (d .0) r ⌝ }
 {
     let mut low: usize = 0;
     let mut high: usize = ss.len();
@@ -398,6 +369,7 @@ pub fn begun(ss: &[[i64; 4]], d: Day) -> usize
         let mid = low + (high - low) / 2;
         let s = stretches::stretch_at(ss, mid);
         let from = s.from;
+        // In order, those before one that begins before d begin before it too, and those after one that does not, do not.
         if from.before(d) {
             low = mid + 1;
         } else {

@@ -1,3 +1,3 @@
--- What a resource step asks, and which tasks its stretches can touch.
-pub mod Asks
+-- What the stretches tell a step, and which tasks they can touch.
+pub mod Told
 pub mod Least

@@ -1,24 +1,28 @@
 // The resource step over the list, sense at least: the days as stretches, then every task against them, each from the list as it entered.
+// A task that asks for no more slack than every stretch leaves is passed over: no rule touches it. Cost: the profile, and for each task
+// that is not passed over the searches of narrow.
 ghost use mathlib.Core.Path.{_≡_};
-ghost use mathlib.Core.Bool.{true};
-ghost use mathlib.Core.List.{List};
-ghost use Prim.Native.Nat.{ℕ, _<_};
-ghost use lib.IntN.{ℤ};
+ghost use Prim.Native.Nat.{_<_};
 ghost use lib.ListN.{length};
-ghost use Rattle.rules.specs.Balance.{each};
-ghost use Rattle.rules.specs.Step.{narrowed, listedDays, atLeastStep};
+ghost use Rattle.integers.specs.Lists.{Each};
+ghost use Rattle.plan.specs.Sets.{setBits};
+ghost use Rattle.plan.specs.Tasks.{Bounded, TaskFits};
+ghost use Rattle.rules.specs.Step.{atLeastStep};
 ghost use Rattle.rows.specs.View.{tasksOf};
-ghost use Rattle.rows.specs.Changes.{outcomeOf, touchedBy};
-ghost use Rattle.rows.specs.Fits.{AllFit};
+ghost use Rattle.rows.specs.Changes.{outcomeOf, Notes};
 ghost use Rattle.stretches.specs.View.{stretchesOf};
-ghost use Rattle.rules.specs.Calls.{rangesFit};
-ghost use Rattle.step.specs.Asks.{Asks, Roomy, Told};
-ghost use Rattle.step.specs.Least.{lowerOf, lowered, Under, lively, canBeBarred, asksMore};
+ghost use Rattle.profile.specs.Lent.{Lent, Asks};
+ghost use Rattle.step.specs.Told.{EachByPage};
+ghost use Rattle.step.specs.Least.{lowered, Under, canBeBarred, asksMore};
 use plan::Narrowed;
 use plan::Power;
 use plan::Task;
 use rows::Stepped;
+use rows::TaskRow;
 use stretches::Stretch;
+use stretches::StretchRow;
+
+// ---- which tasks some stretch could touch
 
 // The least slack of all stretches, and the least that is tight: they touch no task that asks for no more.
 pub struct Least {
@@ -26,30 +30,26 @@ pub struct Least {
     pub tight: Power,
 }
 
-fn lower_of(p: Power, q: Power) -> Power
-    ensures { λ r. ⌜ r ≡ lowerOf p q ⌝ }
-{
-    if q.below(p) { q } else { p }
-}
-
 fn lowered(l: Least, t: Stretch) -> Least
     ensures { λ r. ⌜ r ≡ lowered l t ⌝ }
 {
+    let slack = l.slack;
+    let tight = l.tight;
     Least {
-        slack: lower_of(l.slack, t.slack),
-        tight: lower_of(l.tight, t.tight),
+        slack: slack.smaller(t.slack),
+        tight: tight.smaller(t.tight),
     }
 }
 
-fn least_of(ss: &[[i64; 4]]) -> Least
+fn least_of(ss: &[StretchRow]) -> Least
     ensures { λ l. ⌜ Under l (stretchesOf (now (ss .entry))) ⌝ }
 {
-    let most = Power(1_000_000_000_000);
     let mut l = Least {
-        slack: most,
-        tight: most,
+        slack: stretches::BIG,
+        tight: stretches::BIG,
     };
     let mut k: usize = 0;
+    // What asks for no more than the least asks for no more than any.
     while k < ss.len() {
         l = lowered(l, stretches::stretch_at(ss, k));
         k += 1;
@@ -57,48 +57,31 @@ fn least_of(ss: &[[i64; 4]]) -> Least
     l
 }
 
-// Whether the task can be sure, or be touched by a bar: it has a day on which it is under way wherever it starts, or one resource only.
-pub fn is_lively(t: Task) -> bool
-    ensures { λ b. ⌜ b ≡ lively t ⌝ }
-{
-    let high = t.origin.high;
-    if high.before(t.end.low) {
-        return true;
-    }
-    plan::single_resource(t.set)
-}
-
 // Whether a bar could touch the task where the slack is so low.
 fn can_be_barred(t: Task, slack: Power) -> bool
-    requires { ⌜ rangesFit t ≡ true ⌝ }
+    requires { ⌜ Bounded t ⌝ }
     ensures { λ b. ⌜ b ≡ canBeBarred t slack ⌝ }
 {
-    if slack.below(events::bar_of(t)) {
-        return is_lively(t);
-    }
-    false
+    slack.below(stretches::bar_of(t)) && idle::is_lively(t)
 }
 
 // Whether the task may stand on r and some stretch could touch it.
 fn asks_more(t: Task, r: u64, l: Least) -> bool
-    requires { ⌜ (r < 64) × (rangesFit t ≡ true) ⌝ }
+    requires { ⌜ (r < setBits) × Bounded t ⌝ }
     ensures { λ b. ⌜ b ≡ asksMore r t l ⌝ }
 {
     let tight = l.tight;
-    if plan::has_resource(t.set, r) {
-        if can_be_barred(t, l.slack) {
-            return true;
-        }
-        return tight.below(events::lift_of(t));
-    }
-    false
+    plan::has_resource(t.set, r)
+        && (can_be_barred(t, l.slack) || tight.below(stretches::lift_of(t)))
 }
 
+// ---- the step
+
 // Every task in list order, until a value runs out. One that no stretch can touch stays, and is not looked at further.
-fn narrow_all(s: &mut [[i64; 9]], r: u64, ss: &[[i64; 4]]) -> Stepped
-    requires { ⌜ (r < 64) × AllFit 64 (tasksOf (now s)) ⌝ }
-    ensures outcome { λ o. ⌜ ((limit : ℤ → ℤ) → Told r limit (tasksOf (now (s .entry))) (stretchesOf (now (ss .entry))) → outcomeOf (o .ok) (tasksOf (now (s .exit))) ≡ each (narrowed r limit (tasksOf (now (s .entry))) (listedDays (tasksOf (now (s .entry))))) (tasksOf (now (s .entry)))) ⌝ }
-    ensures touched { λ o. ⌜ (o .ok ≡ true → o .touched ≡ touchedBy (tasksOf (now (s .entry))) (tasksOf (now (s .exit)))) ⌝ }
+fn narrow_all(s: &mut [TaskRow], r: u64, ss: &[StretchRow]) -> Stepped
+    requires { ⌜ (r < setBits) × Each (TaskFits setBits) (tasksOf (now s)) ⌝ }
+    ensures outcome { λ o. ⌜ EachByPage r (tasksOf (now (s .entry))) (stretchesOf (now (ss .entry))) (outcomeOf o (tasksOf (now (s .exit)))) ⌝ }
+    ensures noted { λ o. ⌜ Notes o (tasksOf (now (s .entry))) (tasksOf (now (s .exit))) ⌝ }
 {
     let l = least_of(ss);
     let mut touched: u64 = 0;
@@ -128,17 +111,18 @@ fn narrow_all(s: &mut [[i64; 9]], r: u64, ss: &[[i64; 4]]) -> Stepped
 
 // A shortfall is no plan; where no stretch was worth keeping, no rule touches a task.
 pub fn step(
-    s: &mut [[i64; 9]],
+    s: &mut [TaskRow],
     r: u64,
     limit: Power,
     keys: &mut [u64],
     spare: &mut [u64],
-    ss: &mut [[i64; 4]],
+    ss: &mut [StretchRow],
 ) -> Stepped
-    requires { ⌜ Asks r limit (tasksOf (now s)) ⌝ }
-    requires { ⌜ Roomy (length (now s)) (length (now keys)) (length (now spare)) (length (now ss)) ⌝ }
-    ensures outcome { λ o. ⌜ outcomeOf (o .ok) (tasksOf (now (s .exit))) ≡ atLeastStep r (λ i. limit .0) (tasksOf (now (s .entry))) ⌝ }
-    ensures touched { λ o. ⌜ (o .ok ≡ true → o .touched ≡ touchedBy (tasksOf (now (s .entry))) (tasksOf (now (s .exit)))) ⌝ }
+    requires { ⌜ Asks r limit (length (now s)) ⌝ }
+    requires { ⌜ Lent (length (now s)) (length (now keys)) (length (now spare)) (length (now ss)) ⌝ }
+    requires { ⌜ Each (TaskFits setBits) (tasksOf (now s)) ⌝ }
+    ensures outcome { λ o. ⌜ outcomeOf o (tasksOf (now (s .exit))) ≡ atLeastStep r (λ i. limit .0) (tasksOf (now (s .entry))) ⌝ }
+    ensures noted { λ o. ⌜ Notes o (tasksOf (now (s .entry))) (tasksOf (now (s .exit))) ⌝ }
 {
     let p = profile::profile(s, r, limit, keys, spare, ss);
     if p.short {

@@ -1,21 +1,23 @@
 -- The promise between a profile and a task narrowed against it: what the stretches say of the days on which a rule could touch the task.
 use mathlib.Core.Path.{_≡_}
-use mathlib.Core.Bool.{Bool, true, false}
+use mathlib.Core.Bool.{true, false}
 use mathlib.Core.List.{List, [], _∷_}
-use Prim.Native.Nat.{ℕ, _<_}
-use lib.IntN.{ℤ, pos, _-ℤ_}
+use Prim.Native.Nat.{ℕ, _*_, _<_}
+use lib.IntN.{ℤ, pos, _-ℤ_, natAbs}
 use lib.ListN.{length, getD}
 use lib.Signed.{_≤ℤ_, _<ℤ_}
 use Rattle.integers.specs.Tests.{if, any}
 use Rattle.plan.specs.declared.Task.{Task}
+use Rattle.plan.specs.Powers.{powerHigh}
 use Rattle.plan.specs.Sets.{only}
+use Rattle.plan.specs.Tasks.{mostTasks}
 use Rattle.rules.specs.Step.{running, sure, total, others, counts, needed, barred}
 use Rattle.stretches.specs.declared.Stretch.{Stretch}
 use Rattle.stretches.specs.View.{noStretch, onDay}
 
--- larger than any slack
+-- larger than any slack: a sum of hopes less a limit
 abbrev pub big : ℤ
-big = pos 1000000000000
+big = pos (2 * mostTasks * natAbs powerHigh)
 
 module _ (r : ℕ) (limit : ℤ → ℤ) (ts : List Task) where
   -- how far all hopes together are above the day's limit

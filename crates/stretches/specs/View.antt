@@ -1,17 +1,13 @@
 -- The view: a row of four numbers as a stretch of equal days, a list of rows as a list of stretches.
 use mathlib.Core.Bool.{Bool}
-use mathlib.Core.List.{List, [], _∷_, map}
-use Prim.Native.Nat.{ℕ}
-use lib.IntN.{ℤ, pos}
-use lib.ListN.{getD}
+use mathlib.Core.List.{List, [], map}
+use lib.IntN.{ℤ}
 use lib.Signed.{leZ, ltZ}
 use Rattle.integers.specs.Tests.{and}
+use Rattle.integers.specs.Lists.{cell}
 use Rattle.plan.specs.Days.{day}
 use Rattle.plan.specs.Powers.{power}
 use Rattle.stretches.specs.declared.Stretch.{Stretch}
-
-abbrev pub cell : List ℤ → ℕ → ℤ
-cell r k = getD r k (pos 0)
 
 unfoldable pub stretchOf : List ℤ → Stretch
 stretchOf r = record { from = day (cell r 0); to = day (cell r 1); slack = power (cell r 2); tight = power (cell r 3) }

@@ -1,4 +1,4 @@
--- Numbers at the ends of what a plan can hold, and a task line of the paper's case 9.
+-- 0, the lowest day and the largest number of 64 bits, and a task line of the page's case 9.
 use mathlib.Core.Path.{_≡_, refl}
 use mathlib.Core.List.{[], _∷_}
 use lib.IntN.{pos, negsuc}

@@ -1,23 +1,33 @@
 // A stream of plan files on standard input, each with its length in front as 4 bytes little-endian; for each what the planning
 // program prints. The files, and the second program's answers to them, are made by tools/vectors.
+ghost use mathlib.Core.Path.{_≡_};
 ghost use Prim.Native.Nat.{_≤_, _<_};
 ghost use lib.ListN.{length};
 ghost use Rattle.io.specs.Counts.{Counts};
+use report::MOST_READ;
+
+// A byte has so many values, a length in front of a file so many.
+const BYTE: u64 = 1 << 8;
+
+const LENGTHS: u64 = 1 << 32;
+
+pub const LENGTH_SIZE: usize = 4;
 
 fn wide(x: u8) -> u64
+    ensures { λ r. ⌜ r ≡ x ⌝ }
     ensures { λ r. ⌜ r < 256 ⌝ }
 {
     x as u64
 }
 
-// The next file's length, or more than 4 bytes hold where the stream ends.
+// The next file's length, or more than any where the stream ends.
 fn next_length() -> u64 {
-    let mut b = [0u8; 4];
+    let mut b = [0u8; LENGTH_SIZE];
     let n = io::read_full(0, &mut b);
-    if n < 4 {
-        return 4_294_967_296;
+    if n < LENGTH_SIZE {
+        return LENGTHS;
     }
-    wide(b[0]) + wide(b[1]) * 256 + wide(b[2]) * 65_536 + wide(b[3]) * 16_777_216
+    wide(b[0]) + BYTE * (wide(b[1]) + BYTE * (wide(b[2]) + BYTE * wide(b[3])))
 }
 
 // So many bytes into the start of what is lent, or those that are left.
@@ -31,7 +41,7 @@ fn read_file(n: usize, file: &mut [u8]) -> usize
 // The next file read, settled and told: whether there was one. No file of a stream is longer than the planning program reads.
 fn answer_next() -> bool {
     let length = next_length();
-    if 9383 < length {
+    if length > MOST_READ as u64 {
         return false;
     }
     let mut file = io::large_buffer();

@@ -1,4 +1,4 @@
--- The thin outer call, walked without a word of what the core does: the two lists are loaded, the core runs on plain values, and the first places that it hands back are stored.
+-- The thin outer call, walked without a word of what the core does: the two lists are loaded, the core is applied to plain values, and the first places that it hands back are stored.
 -- The tasks are lent as `&` for the load, come back, and go for good to the store. No branch and no loop.
 use mathlib.Core.Path.{_≡_, refl, sym, subst}
 use mathlib.Core.List.{List, [], _∷_, _++_}
@@ -46,16 +46,16 @@ rest ρ stores =
     (seq (assign (place 0 []) (rvOpd (copy (place 7 (field 0 ∷ []))))) return)))))
 
 abbrev pub body : Ty → Name → Name → Name → Name → Body
-body ρ loadsQ loadsT runs stores =
+body ρ loadsQ loadsT applies stores =
     seq (call loadsQ (copy (place 3 []) ∷ []) (place 5 []))
     (seq (assign (place 10 []) (addrOf (place 4 (field 0 ∷ deref ρ ∷ []))))
     (seq (assign (place 11 []) (aggregate (copy (place 10 []) ∷ copy (place 4 (field 1 ∷ [])) ∷ [])))
     (seq (call loadsT (copy (place 11 []) ∷ []) (place 6 []))
-    (seq (call runs (copy (place 1 []) ∷ copy (place 2 []) ∷ copy (place 5 []) ∷ copy (place 6 []) ∷ []) (place 7 [])) (rest ρ stores)))))
+    (seq (call applies (copy (place 1 []) ∷ copy (place 2 []) ∷ copy (place 5 []) ∷ copy (place 6 []) ∷ []) (place 7 [])) (rest ρ stores)))))
 
 -- a machine value of what the core hands back
-abbrev pub ranVal : Val → Val → ℕ → Val
-ranVal a l n = vstruct (vcons a (vcons l (vcons (vint w64 n) vnil)))
+abbrev pub appliedVal : Val → Val → ℕ → Val
+appliedVal a l n = vstruct (vcons a (vcons l (vcons (vint w64 n) vnil)))
 
 -- the types: of a resource and a task; of the call, the sense and the answer; of the loaded lists; of what the core hands back, with its three parts. And the MIR types of each
 module _ (RQ RT Ca Se An Qs Ps Ra : RattleType) (N : ℕ) (ρ χ ς α ϱ π : Ty) (ν′ : Sym) (answer : Ra .Denot → An .Denot) (list : Ra .Denot → List (RT .Denot)) (stored : Ra .Denot → ℕ) where
@@ -75,13 +75,13 @@ module _ (RQ RT Ca Se An Qs Ps Ra : RattleType) (N : ℕ) (ρ χ ς α ϱ π : T
   mref = tyRef erased mut (pointee (RT .written))
 
   abbrev pub function : Name → Name → Name → Name → Fn
-  function loadsQ loadsT runs stores = record {
+  function loadsQ loadsT applies stores = record {
     lifetimes = 2;
     outlives = [];
     params = 4;
     locals = local α valueLocal ∷ local χ valueLocal ∷ local ς valueLocal ∷ local qslice valueLocal ∷ local slice valueLocal ∷ local ϱ valueLocal ∷ local π valueLocal ∷ local ω valueLocal ∷ local (tyArray ρ N) valueLocal ∷ local word valueLocal
         ∷ local iref valueLocal ∷ local (sliceTy iref) valueLocal ∷ local tyUnit valueLocal ∷ local mref valueLocal ∷ local (sliceTy mref) valueLocal ∷ [];
-    body = body ρ loadsQ loadsT runs stores;
+    body = body ρ loadsQ loadsT applies stores;
   }
 
   module _ {M : Type 1} (𝓤 : URA M) (H : Heap 𝓤) (A : Atoms 𝓤) (W : Given 𝓤 H A) (𝓣 : Tables 𝓤 H) (κ₀ κ₁ : Lft) (q₀ q₁ : Share) (b₀ o₀ : ℕ) (γ₀ : GName) (qs : List (RQ .Denot)) (b o : ℕ) (γ : GName) (ys : List (RT .Denot)) (c : Ca .Denot) (e : Se .Denot) (vc ve : Val) (Post : Val → SProp 𝓤)
@@ -114,15 +114,15 @@ module _ (RQ RT Ca Se An Qs Ps Ra : RattleType) (N : ℕ) (ρ χ ς α ϱ π : T
     Λ = 𝓣 .Λ
 
     -- what the callees give: the loaded lists q and p, what the core hands back of them (φ), and the stored list
-    module _ (loadsQ loadsT runs stores : Name) (q : Qs .Denot) (p : Ps .Denot) (φ : Ra .Denot → Type 0)
+    module _ (loadsQ loadsT applies stores : Name) (q : Qs .Denot) (p : Ps .Denot) (φ : Ra .Denot → Type 0)
         (known-q : ent 𝓤 (sep 𝓤 (A .lft κ₀ q₀) (sem 𝓤 H A OwnQ)) (C loadsQ (s₀ ∷ []) (Gives 𝓤 H A W (Answer 𝓤 H A W Qs (λ r. r ≡ q)) (λ _. ‵ (flft κ₀ q₀) ⊛ ‵ ftrue))))
         (known-t : (ν : Lft) (δ : GName) → ent 𝓤 (sep 𝓤 (A .lft ν fullShare) (sem 𝓤 H A (ShrSlice (named 0) ν RT .own (ref δ) (s ∷ [])))) (C loadsT (s ∷ []) (Gives 𝓤 H A W (Answer 𝓤 H A W Ps (λ r. r ≡ p)) (λ _. ‵ (flft ν fullShare) ⊛ ‵ ftrue))))
-        (known-run : (vq vp : Val) → Is Qs q (vq ∷ []) → Is Ps p (vp ∷ []) → Answers 𝓤 H A W 𝓣 runs (vc ∷ ve ∷ vq ∷ vp ∷ []) Ra φ)
+        (known-apply : (vq vp : Val) → Is Qs q (vq ∷ []) → Is Ps p (vp ∷ []) → Answers 𝓤 H A W 𝓣 applies (vc ∷ ve ∷ vq ∷ vp ∷ []) Ra φ)
         (known-store : (ps : List (RT .Denot)) (v : Val) (n : ℕ) → Is (Array RT N) ps (v ∷ []) → n < 2 ^ 64 → n ≤ N → n ≤ length ys
         → ent 𝓤 (sep 𝓤 (A .lft κ₁ q₁) (sem 𝓤 H A (MutSlice (named 0) κ₁ RT .own (ref γ) (s ∷ [])))) (C stores (s ∷ v ∷ vint w64 n ∷ []) (Gives 𝓤 H A W (Stored ys ps n) (λ zs. ‵ (flft κ₁ q₁) ⊛ ‵ (finally RT γ zs)))))
-        (typed-q : (v : Val) → Is Qs q (v ∷ []) → Holds (hasTy ϱ v) × WT v) (typed-p : (v : Val) → Is Ps p (v ∷ []) → Holds (hasTy π v) × WT v) (typed-ran : (r : Ra .Denot) (v : Val) → Is Ra r (v ∷ []) → Holds (hasTy ω v) × WT v)
+        (typed-q : (v : Val) → Is Qs q (v ∷ []) → Holds (hasTy ϱ v) × WT v) (typed-p : (v : Val) → Is Ps p (v ∷ []) → Holds (hasTy π v) × WT v) (typed-applied : (r : Ra .Denot) (v : Val) → Is Ra r (v ∷ []) → Holds (hasTy ω v) × WT v)
         (typed-answer : (x : An .Denot) (v : Val) → Is An x (v ∷ []) → Holds (hasTy α v) × WT v) (typed-list : (xs : List (RT .Denot)) (v : Val) → Is (Array RT N) xs (v ∷ []) → Holds (hasTy (tyArray ρ N) v) × WT v)
-        (parts : (r : Ra .Denot) (v : Val) → Is Ra r (v ∷ []) → (u : Val × Val) × ((v ≡ ranVal (u .0) (u .1) (stored r)) × Is An (answer r) (u .0 ∷ []) × Is (Array RT N) (list r) (u .1 ∷ []) × (stored r < 2 ^ 64)))
+        (parts : (r : Ra .Denot) (v : Val) → Is Ra r (v ∷ []) → (u : Val × Val) × ((v ≡ appliedVal (u .0) (u .1) (stored r)) × Is An (answer r) (u .0 ∷ []) × Is (Array RT N) (list r) (u .1 ∷ []) × (stored r < 2 ^ 64)))
         (fits : (r : Ra .Denot) → φ r → (stored r ≤ N) × (stored r ≤ length ys))
         (exits : (r : Ra .Denot) (v : Val) (zs : List (RT .Denot)) → φ r → Is An (answer r) (v ∷ []) → zs ≡ take (stored r) (list r) ++ dropped (stored r) ys → length zs ≡ length ys
         → ent 𝓤 (⋆ 𝓤 H A (‵ (flft κ₀ q₀) ∷ ‵ (flft κ₁ q₁) ∷ ‵ OwnQ ∷ ‵ (finally RT γ zs) ∷ [])) (Post v)) where
@@ -138,9 +138,9 @@ module _ (RQ RT Ca Se An Qs Ps Ra : RattleType) (N : ℕ) (ρ χ ς α ϱ π : T
             ∷ ‵ (fat fullShare ϱ l₅ 0 vq) ∷ ‵ (fdies ϱ l₅) ∷ ‵ (fat fullShare slice l₄ 0 s) ∷ ‵ (fdies slice l₄) ∷ ‵ (fat fullShare qslice l₃ 0 s₀) ∷ ‵ (fdies qslice l₃) ∷ ‵ (fat fullShare ς l₂ 0 ve) ∷ ‵ (fdies ς l₂) ∷ ‵ (fat fullShare χ l₁ 0 vc) ∷ ‵ (fdies χ l₁) ∷ ‵ (froom α l₀ 0) ∷ ‵ (fdies α l₀) ∷ []
 
         ends : (vq vp : Val) (r : Ra .Denot) (u : Val × Val) → φ r → Is An (answer r) (u .0 ∷ []) → Is (Array RT N) (list r) (u .1 ∷ []) → stored r < 2 ^ 64
-            → ent 𝓤 (⋆ 𝓤 H A (After vq vp (ranVal (u .0) (u .1) (stored r)))) (Wp 𝓤 H C Λ En (rest ρ stores) (atReturn 𝓤 H En Post))
+            → ent 𝓤 (⋆ 𝓤 H A (After vq vp (appliedVal (u .0) (u .1) (stored r)))) (Wp 𝓤 H C Λ En (rest ρ stores) (atReturn 𝓤 H En Post))
         ends vq vp r u g ga gl gs =
-            qed W (After vq vp (ranVal (u .0) (u .1) (stored r))) ∵ exec ! C Λ En (rest ρ stores) (atRet En Post) $
+            qed W (After vq vp (appliedVal (u .0) (u .1) (stored r))) ∵ exec ! C Λ En (rest ρ stores) (atRet En Post) $
             assigns ! (of-opd ! (load ! (from ! (fld ! refl (stop !))) (look-in ! 19 (sub ! 1 refl (whole !))))) (from ! (stop !)) (init ! 17 refl (typed-list (list r) (u .1) gl)) $
             assigns ! (of-opd ! (load ! (from ! (fld ! refl (stop !))) (look-in ! 19 (sub ! 2 refl (whole !))))) (from ! (stop !)) (init ! 15 refl (tt, record { fits = gs })) $
             assigns ! (addr ! (from ! (fld ! refl (hop ! (look-in ! 25 (sub ! 0 refl (whole !))) (stop !))))) (from ! (stop !)) (init ! 7 refl (tt, tt)) $
@@ -163,9 +163,9 @@ module _ (RQ RT Ca Se An Qs Ps Ra : RattleType) (N : ℕ) (ρ χ ς α ϱ π : T
             ∷ ‵ (froom ϱ l₅ 0) ∷ ‵ (fdies ϱ l₅) ∷ ‵ (fat fullShare slice l₄ 0 s) ∷ ‵ (fdies slice l₄) ∷ ‵ (fat fullShare qslice l₃ 0 s₀) ∷ ‵ (fdies qslice l₃) ∷ ‵ (fat fullShare ς l₂ 0 ve) ∷ ‵ (fdies ς l₂) ∷ ‵ (fat fullShare χ l₁ 0 vc) ∷ ‵ (fdies χ l₁) ∷ ‵ (froom α l₀ 0) ∷ ‵ (fdies α l₀)
             ∷ (‵ (flft κ₀ q₀) ⊛ (‵ (flft κ₁ q₁) ⊛ ‵ ftrue)) ∷ ‵ (owns (Ca ∷ Se ∷ ShrSlice (named 0) κ₀ RQ ∷ MutSlice (named 1) κ₁ RT ∷ []) (c, (e, (record { ptr = (b₀, o₀); name = γ₀; now = qs }, (ref γ, tt)))) (vc ∷ [], (ve ∷ [], (s₀ ∷ [], (s ∷ [], tt))))) ∷ []
 
-        starts : ent 𝓤 (⋆ 𝓤 H A Ctx) (Wp 𝓤 H C Λ En (body ρ loadsQ loadsT runs stores) (atReturn 𝓤 H En Post))
+        starts : ent 𝓤 (⋆ 𝓤 H A Ctx) (Wp 𝓤 H C Λ En (body ρ loadsQ loadsT applies stores) (atReturn 𝓤 H En Post))
         starts =
-            qed W Ctx ∵ exec ! C Λ En (body ρ loadsQ loadsT runs stores) (atRet En Post) $
+            qed W Ctx ∵ exec ! C Λ En (body ρ loadsQ loadsT applies stores) (atRet En Post) $
             -- what is owned of the parameters: of the call and the sense nothing is kept, and of the resources two copies
             move ! (31 ∷ []) $ fsplit ! $ drop ! $ fsplit ! $ drop ! $ fsplit ! $ move ! (1 ∷ []) $ fsplit ! $ move ! (1 ∷ []) $ drop ! $ fsplit ! $ drop ! $ fsplit ! $ move ! (33 ∷ []) $ split ! $ move ! (1 ∷ []) $ split ! $ move ! (1 ∷ []) $ drop ! $
             -- [κ₁'s token; κ₀'s token; obs; the borrow; OwnQ; _14; …; _13; ..]
@@ -184,9 +184,9 @@ module _ (RQ RT Ca Se An Qs Ps Ra : RattleType) (N : ℕ) (ρ χ ς α ϱ π : T
             -- the lifetime is ended, and the borrow is closed as it was
             lft-end ! tt $ lent-back ! tt $ fsplit ! $ drop ! $ closes-slice ! tt RT ys ys refl b o $ nothing ! $
             -- [true; obs; the borrow; κ₁'s token; κ₀'s token; OwnQ; _14; …; _13; ..]
-            calls-told ! (fmOf 𝓤 H (W .laws) 𝓣) (‵ ftrue) (vc ∷ ve ∷ vq ∷ vp ∷ []) (Answer 𝓤 H A W Ra φ) (λ _. ‵ ftrue) (known-run vq vp (of-q vq q′ hq) (of-p vp p′ hp))
+            calls-told ! (fmOf 𝓤 H (W .laws) 𝓣) (‵ ftrue) (vc ∷ ve ∷ vq ∷ vp ∷ []) (Answer 𝓤 H A W Ra φ) (λ _. ‵ ftrue) (known-apply vq vp (of-q vq q′ hq) (of-p vp p′ hp))
             (and-then ! (load ! (from ! (stop !)) (look ! 32 refl)) (and-then ! (load ! (from ! (stop !)) (look ! 30 refl)) (and-then ! (load ! (from ! (stop !)) (look ! 24 refl)) (and-then ! (load ! (from ! (stop !)) (look ! 22 refl)) (no-more !))))) (λ v r h. drop ! $
-            land ! (from ! (stop !)) (init ! 19 refl (typed-ran r v (h .1))) $ rewrite ! 19 (λ (u : Val). ‵ (fat fullShare ω l₇ 0 u)) (parts r v (h .1) .1 .0) refl $ forget ! 13 refl $
+            land ! (from ! (stop !)) (init ! 19 refl (typed-applied r v (h .1))) $ rewrite ! 19 (λ (u : Val). ‵ (fat fullShare ω l₇ 0 u)) (parts r v (h .1) .1 .0) refl $ forget ! 13 refl $
             by ! (ends vq vp r (parts r v (h .1) .0) (h .0) (parts r v (h .1) .1 .1) (parts r v (h .1) .1 .2) (parts r v (h .1) .1 .3)))))))
           where
             of-q : (v : Val) (r : Qs .Denot) → Answer 𝓤 H A W Qs (λ x. x ≡ q) v r → Is Qs q (v ∷ [])
@@ -198,10 +198,10 @@ module _ (RQ RT Ca Se An Qs Ps Ra : RattleType) (N : ℕ) (ρ χ ς α ϱ π : T
       -- the function, from its entry
       pub walk : Room RQ (length qs) → Holds (hasTy χ vc) × WT vc → Holds (hasTy ς ve) × WT ve
           → ent 𝓤 (⋆ 𝓤 H A ((‵ (flft κ₀ q₀) ⊛ (‵ (flft κ₁ q₁) ⊛ ‵ ftrue)) ∷ ‵ (owns (Ca ∷ Se ∷ ShrSlice (named 0) κ₀ RQ ∷ MutSlice (named 1) κ₁ RT ∷ []) (c, (e, (record { ptr = (b₀, o₀); name = γ₀; now = qs }, (ref γ, tt)))) (vc ∷ [], (ve ∷ [], (s₀ ∷ [], (s ∷ [], tt))))) ∷ []))
-          (WpFn 𝓤 H C Λ (function loadsQ loadsT runs stores) (vc ∷ ve ∷ s₀ ∷ s ∷ []) Post)
+          (WpFn 𝓤 H C Λ (function loadsQ loadsT applies stores) (vc ∷ ve ∷ s₀ ∷ s ∷ []) Post)
       walk g₀ typed-call typed-sense =
           qed W ((‵ (flft κ₀ q₀) ⊛ (‵ (flft κ₁ q₁) ⊛ ‵ ftrue)) ∷ ‵ (owns (Ca ∷ Se ∷ ShrSlice (named 0) κ₀ RQ ∷ MutSlice (named 1) κ₁ RT ∷ []) (c, (e, (record { ptr = (b₀, o₀); name = γ₀; now = qs }, (ref γ, tt)))) (vc ∷ [], (ve ∷ [], (s₀ ∷ [], (s ∷ [], tt))))) ∷ []) ∵
-          enter ! C Λ (function loadsQ loadsT runs stores) (vc ∷ ve ∷ s₀ ∷ s ∷ []) _ $
+          enter ! C Λ (function loadsQ loadsT applies stores) (vc ∷ ve ∷ s₀ ∷ s ∷ []) _ $
           alloc1 ! (λ l₀. alloc1 ! (λ l₁. alloc1 ! (λ l₂. alloc1 ! (λ l₃. alloc1 ! (λ l₄. alloc1 ! (λ l₅. alloc1 ! (λ l₆. alloc1 ! (λ l₇. alloc1 ! (λ l₈. alloc1 ! (λ l₉. alloc1 ! (λ l₁₀. alloc1 ! (λ l₁₁. alloc1 ! (λ l₁₂. alloc1 ! (λ l₁₃. alloc1 ! (λ l₁₄. alloc0 ! $ params1 ! $
           pass1 ! (init ! 26 refl typed-call) $ pass1 ! (init ! 24 refl typed-sense) $ pass1 ! (init ! 22 refl (tt, (tt, (record { fits = g₀ .0 }, tt)))) $ pass1 ! (init ! 20 refl (tt, (tt, (record { fits = gn .0 }, tt)))) $ pass0 ! $
           by ! (starts l₀ l₁ l₂ l₃ l₄ l₅ l₆ l₇ l₈ l₉ l₁₀ l₁₁ l₁₂ l₁₃ l₁₄))))))))))))))))

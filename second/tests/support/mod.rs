@@ -2,22 +2,28 @@
 #![allow(dead_code)]
 
 use second::random::Random;
-use second::{Plan, Range, Resource, Sense, Task};
+use second::{Plan, Range, Resource, Sense, Set, Task};
+
+/// The range that document 01 writes as "0..9".
+pub fn to(low: i64, high: i64) -> Range {
+    Range::new(low, high)
+}
 
 /// A task "written origin / duration / end / height", one value each, on resource 0.
 pub fn single(origin: i64, duration: i64, end: i64, height: i64) -> Task {
     wide(
         1,
-        (origin, origin),
-        (duration, duration),
-        (end, end),
-        (height, height),
+        Range::single(origin),
+        Range::single(duration),
+        Range::single(end),
+        Range::single(height),
     )
 }
 
+/// A task with this set, "set as a number".
 pub fn wide(set: u64, origin: Range, duration: Range, end: Range, height: Range) -> Task {
     Task {
-        set,
+        set: Set(set),
         origin,
         duration,
         end,
@@ -46,27 +52,22 @@ fn sense(random: &mut Random) -> Sense {
     random.pick(&[Sense::AtMost, Sense::AtLeast])
 }
 
-fn range(random: &mut Random, from: i64, to: i64, widest: i64) -> Range {
-    let low = random.within(from, to);
-    (low, low + random.within(0, widest))
-}
-
 /// A plan small enough to list: up to 3 tasks, up to 2 resources, few values.
 pub fn small_plan(random: &mut Random) -> Plan {
     let count = random.within(1, 2) as usize;
     let limits: Vec<i64> = (0..count).map(|_| random.within(-3, 3)).collect();
     let mut tasks = Vec::new();
     for _ in 0..random.within(0, 3) {
-        let set = random.within(1, (1 << count) - 1) as u64;
-        let origin = range(random, 0, 4, 3);
-        let duration = range(random, 0, 3, 2);
-        let height = range(random, -3, 3, 1);
+        let set = random.set(count);
+        let origin = random.range(0, 4, 3);
+        let duration = random.range(0, 3, 2);
+        let height = random.range(-3, 3, 1);
         let end = if random.one_in(2) {
-            (origin.0 + duration.0, origin.1 + duration.1)
+            origin.plus(duration)
         } else {
-            range(random, 1, 6, 4)
+            random.range(1, 6, 4)
         };
-        tasks.push(wide(set, origin, duration, end, height));
+        tasks.push(wide(set.0, origin, duration, end, height));
     }
     plan(sense(random), &limits, &tasks)
 }
@@ -85,7 +86,7 @@ pub fn single_value_plan(random: &mut Random) -> Plan {
             origin + duration
         };
         let mut task = single(origin, duration, end, random.within(-3, 4));
-        task.set = 1 << random.place(count);
+        task.set = Set::only(random.place(count));
         tasks.push(task);
     }
     plan(sense(random), &limits, &tasks)

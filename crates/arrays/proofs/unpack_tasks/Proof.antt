@@ -1,24 +1,30 @@
--- The rows' tasks laid over the array, from the front.
+-- The rows' tasks laid over an array of empty ones, from the front.
 use native.Mathlib.Omega.{arith}
 use borrow.Author.Needs.{needs}
-use mathlib.Core.Path.{_≡_, sym, _∙_, ap}
-use mathlib.Core.List.{_++_}
-use Prim.Native.Nat.{ℕ, _≤_, _<_, _-_}
-use lib.ListN.{length, drop, length-set}
+use mathlib.Core.Path.{_≡_, refl, sym, _∙_, ap}
+use mathlib.Core.List.{List}
+use Prim.Native.Nat.{_≤_, _<_, _-_}
+use lib.ListN.{length, take, length-set, replicate}
+use lib.Seq.{take-at}
 use Rattle.integers.proofs.Loops.{over, over-none, over-more, over-drop}
-use Rattle.rows.specs.View.{tasksOf, noTask}
+use Rattle.plan.specs.declared.Task.{Task}
+use Rattle.plan.specs.Tasks.{mostTasks, noTask}
+use Rattle.rows.specs.View.{tasksOf}
 use Rattle.rows.proofs.View.{length-tasks}
 use Rattle.arrays.proofs.unpack_tasks.Statement.{statement}
 use Rattle.arrays.proofs.unpack_tasks.Tie as tie
 
 abbrev Inv-loop : tie.InvT-loop
-Inv-loop s list₀ i₀ list i = (i ≤ length s) × (length list ≡ 256) × (list ≡ over i (tasksOf s) list₀)
+Inv-loop s list₀ i₀ list i = (i ≤ length s) × (length list ≡ mostTasks) × (list ≡ over i (tasksOf s) list₀)
 
 abbrev μ-loop : tie.MeasureT-loop
 μ-loop s list₀ i₀ list i = length s - i
 
+no-task-requires : tie.Need-no-task-requires Inv-loop μ-loop
+no-task-requires c κs = search needs
+
 loop-holds : tie.Need-loop-holds Inv-loop μ-loop
-loop-holds c = (omega arith, omega arith, sym (over-none (tasksOf (c .args .s .now)) (c .args .tasks)))
+loop-holds c = (omega arith, refl, sym (over-none (tasksOf (c .before .args .s .now)) (replicate mostTasks (c .no-task .result))))
 
 task-at-requires : tie.Need-task-at-requires Inv-loop μ-loop
 task-at-requires c κs = search needs
@@ -38,19 +44,20 @@ loop-less c = omega arith
 loop-again : tie.Need-loop-again Inv-loop μ-loop
 loop-again c =
     let b = c .before .before in
-    let a = b .before .args in
-    let h : b .loop .i < length (tasksOf (a .s .now)) = omega (arith, length-tasks (a .s .now)) in
-    let k : b .loop .i < length (a .tasks) = omega arith in
-    (omega arith, simp length-set (b .loop .inv .1), cc (over-more noTask (b .loop .i) (tasksOf (a .s .now)) (a .tasks) h k, c .task-at .ensures))
+    let s = b .before .before .args .s .now in
+    let ds = replicate mostTasks (b .before .no-task .result) in
+    let h : b .loop .i < length (tasksOf s) = omega (arith, length-tasks s) in
+    let k : b .loop .i < mostTasks = omega arith in
+    (omega arith, simp length-set (b .loop .inv .1), cc (over-more noTask (b .loop .i) (tasksOf s) ds h k, c .task-at .ensures))
 
 returns : tie.Need-returns Inv-loop μ-loop
 returns c =
     let b = c .before in
-    let a = b .before .args in
-    let l = length-tasks (a .s .now) in
-    b .loop .inv .2
-    ∙ over-drop (b .loop .i) (tasksOf (a .s .now)) (a .tasks) (omega (arith, l)) (omega (arith, l))
-    ∙ ap (λ (n : ℕ). tasksOf (a .s .now) ++ drop n (a .tasks)) l
+    let s = b .before .before .args .s .now in
+    let l = length-tasks s in
+    let ds = replicate mostTasks (b .before .no-task .result) in
+    ap (λ (list : List Task). take (length s) list) (b .loop .inv .2 ∙ over-drop (b .loop .i) (tasksOf s) ds (omega (arith, l)) (omega (arith, l)))
+    ∙ take-at (tasksOf s) _ (length s) l
 
 pub unpack-tasks-spec : {M : Type 1} → statement M
 unpack-tasks-spec =
@@ -58,6 +65,7 @@ unpack-tasks-spec =
     (tie.spec
     Inv-loop
     μ-loop
+    no-task-requires
     loop-holds
     task-at-requires
     mul-list

@@ -2,9 +2,11 @@
 use lib.ListN.{getD, length}
 use Rattle.plan.specs.declared.Narrowed.the-variants.{Kept, RanOut}
 use Rattle.integers.proofs.Tests.{clash, by-cases}
+use Rattle.integers.proofs.Lists.{each-at}
 use mathlib.Core.Bool.{true, false, not}
-use Rattle.rows.specs.View.{noTask, tasksOf}
-use Rattle.rows.specs.Fits.{Bounded}
+use Rattle.plan.specs.Tasks.{noTask}
+use Rattle.rows.specs.View.{tasksOf}
+use Rattle.plan.specs.Tasks.{Bounded}
 use native.Mathlib.Omega.{arith}
 use mathlib.Core.Path.{_≡_, refl, sym, ap, _∙_}
 use mathlib.Core.Logic.{⊎-elim}
@@ -35,7 +37,7 @@ next-bounded c =
     let b = c .before .before .before in
     let s = b .before .args .s .now in
     let e = c .task-at .ensures ∙ walk-next balanced (tasksOf s) (b .loop .i) (tasksOf (b .loop .s)) (b .loop .touched) (b .loop .inv .2) in
-    rw e (b .before .pre (b .loop .i) (omega (arith, length-tasks s)))
+    rw e (each-at noTask (b .loop .i) (b .before .pre) (omega (arith, length-tasks s)))
 
 is-exact-requires : tie.Need-is-exact-requires Inv-loop μ-loop
 is-exact-requires c κs = next-bounded c

@@ -1,5 +1,5 @@
 -- The low ends, and only where they hold the high ends.
-use mathlib.Core.Path.{sym, _∙_}
+use Rattle.integers.proofs.Tests.{and-yes, and-no}
 use Rattle.balance.specs.Exact.{exact}
 use Rattle.balance.proofs.Fits.{fits}
 use Rattle.balance.proofs.is_exact.Statement.{statement}
@@ -13,11 +13,11 @@ is-sum-requires-2 c κs = search fits
 
 returns : tie.Need-returns
 unfolding exact
-returns c = let n = c .before in simp (sym (n .before .is-sum .ensures) ∙ n .if1 .taken, c .is-sum2 .ensures)
+returns c = and-yes (c .before .before .is-sum .ensures) (c .before .if1 .taken) (c .is-sum2 .ensures)
 
 returns-2 : tie.Need-returns-2
 unfolding exact
-returns-2 c = simp (sym (c .before .is-sum .ensures) ∙ c .if1 .left)
+returns-2 c = and-no _ (c .before .is-sum .ensures) (c .if1 .left)
 
 pub is-exact-spec : {M : Type 1} → statement M
 is-exact-spec = tie.close (tie.spec is-sum-requires is-sum-requires-2 returns returns-2)

@@ -1,56 +1,95 @@
 -- The reader's refusal, or 0.
-use native.Mathlib.Omega.{arith}
-use mathlib.Core.Path.{_≡_, refl, sym, ap, _∙_}
-use Rattle.rules.specs.Calls.{mostResources, mostTasks}
-use Rattle.format.specs.Reading.{readPlan}
+use mathlib.Core.Path.{_≡_, sym, ap, _∙_}
+use Rattle.plan.specs.declared.Checked.{Checked}
+use Rattle.plan.specs.declared.Checked.the-variants.{Accepted}
+use Rattle.format.specs.declared.HeaderAnswer.{HeaderAnswer}
+use Rattle.format.specs.Reading.{readUnless, headerPlan, planAfter, readPlan}
+use Rattle.format.proofs.Files.{header-few}
 use Rattle.calls.specs.Files.{readNumber, checkFile}
-use Rattle.calls.proofs.Files.{got, got-none}
 use borrow.Author.Needs.{needs}
 use Rattle.calls.proofs.check_file.Statement.{statement}
 use Rattle.calls.proofs.check_file.Tie as tie
 
-slice-aggregate-read-plan : tie.Need-slice-aggregate-read-plan
-slice-aggregate-read-plan c = search needs
+-- the header
+module _ (c : tie.After-read-header) where
+  abbrev start : tie.Start
+  start = c .before .before
 
-slice-aggregate-read-plan-2 : tie.Need-slice-aggregate-read-plan-2
-slice-aggregate-read-plan-2 c = search needs
+  header-as : (a : HeaderAnswer) → c .read-header .result ≡ a → readNumber (planAfter (start .args .file .now) a) ≡ checkFile (start .args .file .now)
+  unfolding checkFile readPlan
+  header-as a e = ap (λ (x : HeaderAnswer). readNumber (planAfter (start .args .file .now) x)) (sym e ∙ c .read-header .ensures)
 
-read-plan-requires : tie.Need-read-plan-requires
-read-plan-requires c κs = (omega arith, λ n few room. omega (arith, few))
+-- the rest
+module _ (c : tie.After-read-rest) where
+  abbrev counted : tie.After-h
+  counted = c .before .before .before .before
 
-enum-known-answer : tie.Need-enum-known-answer
-enum-known-answer c = search needs
+  rest-as : (a : Checked) → c .read-rest .result ≡ a → readNumber (readUnless a (headerPlan (counted .h .given .0 .0) (c .read-rest .last .1 .1 .0) (c .read-rest .last .1 .1 .1 .0))) ≡ checkFile (start (counted .before .before) .args .file .now)
+  rest-as a e =
+      ap (λ (x : Checked). readNumber (readUnless x (headerPlan (counted .h .given .0 .0) (c .read-rest .last .1 .1 .0) (c .read-rest .last .1 .1 .1 .0)))) (sym e) ∙ ap readNumber (c .read-rest .ensures)
+      ∙ header-as (counted .before .before) (HeaderAnswer.Counts (counted .h .given .0 .0)) (counted .h .given .1)
+
+read-header-requires : tie.Need-read-header-requires
+read-header-requires c κs = search needs
+
+enum-known-f : tie.Need-enum-known-f
+enum-known-f c = search needs
 
 refusal-number-requires : tie.Need-refusal-number-requires
 refusal-number-requires c κs = search needs
+
+enum-known-h : tie.Need-enum-known-h
+enum-known-h c = search needs
+
+slice-aggregate-read-rest : tie.Need-slice-aggregate-read-rest
+slice-aggregate-read-rest c = search needs
+
+slice-aggregate-read-rest-2 : tie.Need-slice-aggregate-read-rest-2
+slice-aggregate-read-rest-2 c = search needs
+
+read-rest-requires : tie.Need-read-rest-requires
+read-rest-requires c κs =
+    let m = c .before .before .before in
+    let d = m .before .before in
+    let few = header-few (start d .args .file .now) (sym (d .read-header .ensures) ∙ m .h .given .1) in
+    (few .resources, few .tasks)
+
+enum-known-f-2 : tie.Need-enum-known-f-2
+enum-known-f-2 c = search needs
+
+refusal-number-requires-2 : tie.Need-refusal-number-requires-2
+refusal-number-requires-2 c κs = search needs
 
 enum-told : tie.Need-enum-told
 enum-told c = search needs
 
 returns : tie.Need-returns
-unfolding checkFile
 returns c =
-    let d = c .before .before .before .before .before .before in
-    let f = c .before .before .answer .given in
-    c .refusal-number .ensures
-    ∙ ap readNumber (sym (got-none (readPlan mostResources mostTasks (d .before .before .before .before .args .file .now)) (f .0 .0) (sym (d .read-plan .ensures .0) ∙ f .1)))
+    let m = c .before .before in
+    c .refusal-number .ensures ∙ header-as (m .before .before) (HeaderAnswer.Refused (m .f .given .0 .0)) (m .f .given .1)
 
 returns-2 : tie.Need-returns-2
-unfolding checkFile
 returns-2 c =
-    let d = c .before .before .before .before in
-    let a = c .enum-told .given in
-    ap readNumber (sym (got (readPlan mostResources mostTasks (d .before .before .before .before .args .file .now)) (a .0 .0) (a .0 .1 .0) (a .0 .1 .1 .0) (sym (d .read-plan .ensures .0) ∙ a .1) .is))
+    let m = c .before .before in
+    c .refusal-number2 .ensures ∙ rest-as (m .before .before .before .before) (Checked.Refused (m .f2 .given .0 .0)) (m .f2 .given .1)
+
+returns-3 : tie.Need-returns-3
+returns-3 c = rest-as (c .before .before .before .before) Accepted (c .enum-told .given .1)
 
 pub check-file-spec : {M : Type 1} → statement M
 check-file-spec =
     tie.close
     (tie.spec
-    slice-aggregate-read-plan
-    slice-aggregate-read-plan-2
-    read-plan-requires
-    enum-known-answer
+    read-header-requires
+    enum-known-f
     refusal-number-requires
+    enum-known-h
+    slice-aggregate-read-rest
+    slice-aggregate-read-rest-2
+    read-rest-requires
+    enum-known-f-2
+    refusal-number-requires-2
     enum-told
     returns
-    returns-2)
+    returns-2
+    returns-3)

@@ -1,4 +1,4 @@
--- `load_tasks` meets its contract: `Load` at the record `Task`, an array of 256 and the struct `Tasks`.
+-- `load_tasks` meets its contract: `Load` at the record `Task`, an array of `mostTasks` and the struct `Tasks`.
 use mathlib.Core.Path.{_≡_, refl}
 use mathlib.Core.List.{List, [], _∷_}
 use Prim.Native.Nat.{_<_, _^_}
@@ -25,7 +25,8 @@ use denote.Triple.Table.{entered, cited}
 use Rattle.plan.specs.declared.Task.{Task}
 use Rattle.plan.proofs.Task as T
 use Rattle.plan.proofs.Task.Laws as T′
-use Rattle.copies.specs.Loaded.{firsts, noTask, loadedTasks}
+use Rattle.plan.specs.Tasks.{mostTasks, noTask}
+use Rattle.copies.specs.Loaded.{firsts, loadedTasks}
 use Rattle.copies.proofs.Tasks as P
 use Rattle.copies.proofs.Tasks.Laws as P′
 use Rattle.copies.proofs.Rows.{as-field}
@@ -45,9 +46,9 @@ use Rattle.copies.proofs.load_tasks.Statement as stated
 use Rattle.copies.proofs.load_tasks.Code as code
 
 -- the array and the length make the struct
-is : (ys : List Task) (v : Val) → length ys < 2 ^ 64 → Is (Array T.the-row 256) (firsts 256 noTask ys) (v ∷ []) → Is P.the-row (loadedTasks ys) (loaded v (length ys) ∷ [])
+is : (ys : List Task) (v : Val) → length ys < 2 ^ 64 → Is (Array T.the-row mostTasks) (firsts mostTasks noTask ys) (v ∷ []) → Is P.the-row (loadedTasks ys) (loaded v (length ys) ∷ [])
 unfolding loadedTasks
-is ys v l g = ((v ∷ [], (vint w64 (length ys) ∷ [], tt)), (refl, (as-field T.the-type T′.the-laws 256 (firsts 256 noTask ys) (v ∷ []) g, ((refl, l), tt))))
+is ys v l g = ((v ∷ [], (vint w64 (length ys) ∷ [], tt)), (refl, (as-field T.the-type T′.the-laws mostTasks (firsts mostTasks noTask ys) (v ∷ []) g, ((refl, l), tt))))
 
 module _ {M : Type 1} (𝓤 : URA M) (H : Heap 𝓤) (A : Atoms 𝓤) (W : Given 𝓤 H A) (mem : Memory → SProp 𝓤) (run : Routine → Fun 𝓤) where
   abbrev None : Contract 𝓤
@@ -63,7 +64,7 @@ unfolding code.routine tablesOf
 load-tasks-spec 𝓤 H 𝓜 𝓖 𝓡 =
     entered 𝓤 H (tripleOf 𝓤 H (𝓖 .A) load.signature (load.spec 𝓤 H (𝓖 .A) (𝓜 .mem) (𝓡 .run)))
     (tables 𝓤 H 𝓜 𝓡 code.env .C) (tables 𝓤 H 𝓜 𝓡 code.env .Λ) #load code.function (code.unfolded 𝓤 H 𝓜 𝓡)
-    (meets T.the-type T′.the-laws T′.the-copy T′.the-plain 256 noTask P.the-type P′.the-laws P′.the-plain loadedTasks 𝓤 H (𝓖 .A) (givenOf 𝓤 H 𝓜 𝓖) (tablesOf 𝓤 H 𝓜 (tables 𝓤 H 𝓜 𝓡 code.env)) (𝓜 .mem) (𝓡 .run) is tt tt #none
+    (meets T.the-type T′.the-laws T′.the-copy T′.the-plain mostTasks noTask P.the-type P′.the-laws P′.the-plain loadedTasks 𝓤 H (𝓖 .A) (givenOf 𝓤 H 𝓜 𝓖) (tablesOf 𝓤 H 𝓜 (tables 𝓤 H 𝓜 𝓡 code.env)) (𝓜 .mem) (𝓡 .run) is tt tt #none
     (made 𝓤 H (𝓖 .A) (givenOf 𝓤 H 𝓜 𝓖) (𝓜 .mem) (𝓡 .run) (tablesOf 𝓤 H 𝓜 (tables 𝓤 H 𝓜 𝓡 code.env))
     (cited 𝓤 H (None 𝓤 H (𝓖 .A) (givenOf 𝓤 H 𝓜 𝓖) (𝓜 .mem) (𝓡 .run)) 𝓜 𝓡 code.env #none none-def.routine code.calls-copies·no-task (none-thm.met 𝓤 H 𝓜 𝓖 𝓡)))
     (cited 𝓤 H (Fewer 𝓤 H (𝓖 .A) (givenOf 𝓤 H 𝓜 𝓖) (𝓜 .mem) (𝓡 .run)) 𝓜 𝓡 code.env #fewer fewer-def.routine code.calls-copies·fewer-of (fewer-thm.met 𝓤 H 𝓜 𝓖 𝓡)))

@@ -1,6 +1,6 @@
 -- `no_resource` gives the record that fills the places past a list's end.
 use mathlib.Core.Path.{refl}
-use Rattle.copies.specs.Loaded.{noResource}
+use Rattle.plan.specs.Tasks.{noResource}
 use Rattle.copies.proofs.no_resource.Statement.{statement}
 use Rattle.copies.proofs.no_resource.Tie as tie
 

@@ -1,6 +1,6 @@
 -- `no_task` gives the record that fills the places past a list's end.
 use mathlib.Core.Path.{refl}
-use Rattle.copies.specs.Loaded.{noTask}
+use Rattle.plan.specs.Tasks.{noTask}
 use Rattle.copies.proofs.no_task.Statement.{statement}
 use Rattle.copies.proofs.no_task.Tie as tie
 

@@ -1,6 +1,8 @@
 -- The sense, then the two counts.
+use Rattle.format.specs.declared.Mark.the-variants.{PL}
+use Rattle.format.specs.Format.{headerFrom}
 use Rattle.format.proofs.Numbers.{number-one}
-use Rattle.format.proofs.Places.{header-places}
+use Rattle.format.proofs.Records.{numbers-placed}
 use borrow.Author.Needs.{needs}
 use Rattle.cursor.proofs.header_of.Statement.{statement}
 use Rattle.cursor.proofs.header_of.Tie as tie
@@ -21,8 +23,9 @@ cast-t7 : tie.Need-cast-t7
 cast-t7 c = search needs
 
 returns : tie.Need-returns
+unfolding headerFrom
 returns c = let b = c .before .before .before .before .args .b .now in
-    rw (header-places b, number-one 2 b) (cc (c .before .one-at .ensures .0, c .two-at .ensures .0))
+    rw (numbers-placed PL b, number-one 2 b) (cc (c .before .one-at .ensures .0, c .two-at .ensures .0))
 
 pub header-of-spec : {M : Type 1} → statement M
 header-of-spec =

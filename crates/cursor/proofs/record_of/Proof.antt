@@ -1,5 +1,5 @@
 -- By the mark.
-use mathlib.Core.Path.{_∙_, sym, ap}
+use mathlib.Core.Path.{sym, ap, _∙_}
 use Rattle.format.specs.declared.Mark.{Mark}
 use Rattle.cursor.specs.Handed.{recordOf}
 use borrow.Author.Needs.{needs}
@@ -26,18 +26,21 @@ task-record-requires c κs = search needs
 
 returns : tie.Need-returns
 returns c =
-    let a = c .before .before .before .before .args in
-    c .plan-record .ensures ∙ ap (λ (x : Mark). recordOf x (a .at) (a .b .now)) (sym (c .before .enum-told .given .1))
+    let m = c .before in
+    let a = m .before .before .before .args in
+    c .plan-record .ensures ∙ ap (λ (k : Mark). recordOf k (a .at) (a .b .now)) (sym (m .enum-told .given .1))
 
 returns-2 : tie.Need-returns-2
 returns-2 c =
-    let a = c .before .before .before .before .args in
-    c .resource-record .ensures ∙ ap (λ (x : Mark). recordOf x (a .at) (a .b .now)) (sym (c .before .enum-told2 .given .1))
+    let m = c .before in
+    let a = m .before .before .before .args in
+    c .resource-record .ensures ∙ ap (λ (k : Mark). recordOf k (a .at) (a .b .now)) (sym (m .enum-told2 .given .1))
 
 returns-3 : tie.Need-returns-3
 returns-3 c =
-    let a = c .before .before .before .before .args in
-    c .task-record .ensures ∙ ap (λ (x : Mark). recordOf x (a .at) (a .b .now)) (sym (c .before .enum-told3 .given .1))
+    let m = c .before in
+    let a = m .before .before .before .args in
+    c .task-record .ensures ∙ ap (λ (k : Mark). recordOf k (a .at) (a .b .now)) (sym (m .enum-told3 .given .1))
 
 pub record-of-spec : {M : Type 1} → statement M
 record-of-spec =

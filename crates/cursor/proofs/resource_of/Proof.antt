@@ -1,9 +1,10 @@
 -- The identifier, then the limit.
 use native.Mathlib.Omega.{arith}
-use mir.Syntax.{w32}
-use mir.Val.{SFits}
-use mir.Facts.{toZ-ofZ}
-use Rattle.format.proofs.Places.{resource-places}
+use mir.Syntax.{w32, w64}
+use Rattle.integers.proofs.Z.{back}
+use Rattle.format.specs.declared.Mark.the-variants.{RS}
+use Rattle.format.specs.Format.{resourceFrom}
+use Rattle.format.proofs.Records.{numbers-placed}
 use borrow.Author.Needs.{needs}
 use Rattle.cursor.proofs.resource_of.Statement.{statement}
 use Rattle.cursor.proofs.resource_of.Tie as tie
@@ -11,13 +12,14 @@ use Rattle.cursor.proofs.resource_of.Tie as tie
 id-at-requires : tie.Need-id-at-requires
 id-at-requires c κs = search needs
 
-power-at-requires : tie.Need-power-at-requires
-power-at-requires c κs = search needs
+cell-at-requires : tie.Need-cell-at-requires
+cell-at-requires c κs = search needs
 
 returns : tie.Need-returns
-returns c = let b = c .before .before .before .args .b .now in
-    let f : SFits w32 (c .before .id-at .result) = record { sfits = omega arith } in
-    rw (resource-places b, toZ-ofZ f) (cc (c .before .id-at .ensures, c .power-at .ensures))
+unfolding resourceFrom
+returns c =
+    let id = c .before .id-at in
+    rw (numbers-placed RS (c .before .before .before .args .b .now), back w32 (id .result) (omega arith), back w64 (c .cell-at .result) (omega arith), id .ensures, c .cell-at .ensures)
 
 pub resource-of-spec : {M : Type 1} → statement M
-resource-of-spec = tie.close (tie.spec id-at-requires power-at-requires returns)
+resource-of-spec = tie.close (tie.spec id-at-requires cell-at-requires returns)

@@ -7,14 +7,14 @@ use Rattle.cursor.proofs.resource_record.Tie as tie
 returns : tie.Need-returns
 returns c = rw (lt-ltb _ _ (c .if1 .taken))
 
+add-t4 : tie.Need-add-t4
+add-t4 c = search needs
+
 resource-of-requires : tie.Need-resource-of-requires
 resource-of-requires c κs = search needs
-
-add-t3 : tie.Need-add-t3
-add-t3 c = search needs
 
 returns-2 : tie.Need-returns-2
 returns-2 c = rw (le-ltb _ _ (c .before .if1 .left), c .resource-of .ensures)
 
 pub resource-record-spec : {M : Type 1} → statement M
-resource-record-spec = tie.close (tie.spec returns resource-of-requires add-t3 returns-2)
+resource-record-spec = tie.close (tie.spec returns add-t4 resource-of-requires returns-2)

@@ -1,5 +1,7 @@
--- The set, then low and high of origin, duration, end and height.
-use Rattle.format.proofs.Places.{task-places}
+-- The set, then the four ranges.
+use Rattle.format.specs.declared.Mark.the-variants.{TK}
+use Rattle.format.specs.Format.{taskFrom}
+use Rattle.format.proofs.Records.{numbers-placed}
 use borrow.Author.Needs.{needs}
 use Rattle.cursor.proofs.task_of.Statement.{statement}
 use Rattle.cursor.proofs.task_of.Tie as tie
@@ -10,44 +12,27 @@ two-at-requires c κs = search needs
 cast-t3 : tie.Need-cast-t3
 cast-t3 c = search needs
 
-day-at-requires : tie.Need-day-at-requires
-day-at-requires c κs = search needs
+days-at-requires : tie.Need-days-at-requires
+days-at-requires c κs = search needs
 
-day-at-requires-2 : tie.Need-day-at-requires-2
-day-at-requires-2 c κs = search needs
+days-at-requires-2 : tie.Need-days-at-requires-2
+days-at-requires-2 c κs = search needs
 
-day-at-requires-3 : tie.Need-day-at-requires-3
-day-at-requires-3 c κs = search needs
+days-at-requires-3 : tie.Need-days-at-requires-3
+days-at-requires-3 c κs = search needs
 
-day-at-requires-4 : tie.Need-day-at-requires-4
-day-at-requires-4 c κs = search needs
-
-day-at-requires-5 : tie.Need-day-at-requires-5
-day-at-requires-5 c κs = search needs
-
-day-at-requires-6 : tie.Need-day-at-requires-6
-day-at-requires-6 c κs = search needs
-
-power-at-requires : tie.Need-power-at-requires
-power-at-requires c κs = search needs
-
-power-at-requires-2 : tie.Need-power-at-requires-2
-power-at-requires-2 c κs = search needs
+powers-at-requires : tie.Need-powers-at-requires
+powers-at-requires c κs = search needs
 
 returns : tie.Need-returns
-returns c = let b = c .before .before .before .before .before .before .before .before .before .before .args .b .now in
-    rw (task-places b)
-    (cc (
-      c .before .before .before .before .before .before .before .before .two-at .ensures .0,
-      c .before .before .before .before .before .before .before .day-at .ensures,
-      c .before .before .before .before .before .before .day-at2 .ensures,
-      c .before .before .before .before .before .day-at3 .ensures,
-      c .before .before .before .before .day-at4 .ensures,
-      c .before .before .before .day-at5 .ensures,
-      c .before .before .day-at6 .ensures,
-      c .before .power-at .ensures,
-      c .power-at2 .ensures,
-    ))
+unfolding taskFrom
+returns c =
+    let end = c .before in
+    let duration = end .before in
+    let origin = duration .before in
+    let set = origin .before in
+    rw (numbers-placed TK (set .before .before .args .b .now))
+    (cc (set .two-at .ensures .0, origin .days-at .ensures, duration .days-at2 .ensures, end .days-at3 .ensures, c .powers-at .ensures))
 
 pub task-of-spec : {M : Type 1} → statement M
 task-of-spec =
@@ -55,12 +40,8 @@ task-of-spec =
     (tie.spec
     two-at-requires
     cast-t3
-    day-at-requires
-    day-at-requires-2
-    day-at-requires-3
-    day-at-requires-4
-    day-at-requires-5
-    day-at-requires-6
-    power-at-requires
-    power-at-requires-2
+    days-at-requires
+    days-at-requires-2
+    days-at-requires-3
+    powers-at-requires
     returns)

@@ -5,11 +5,14 @@ use borrow.Author.Needs.{needs}
 use Rattle.damaged.proofs.read_first.Statement.{statement}
 use Rattle.damaged.proofs.read_first.Tie as tie
 
-slice-aggregate-show-into : tie.Need-slice-aggregate-show-into
-slice-aggregate-show-into c = simp length-take (omega arith)
+slice-aggregate-read-lent : tie.Need-slice-aggregate-read-lent
+slice-aggregate-read-lent c = simp length-take (omega arith)
 
-show-into-requires : tie.Need-show-into-requires
-show-into-requires c κs = search needs
+read-lent-requires : tie.Need-read-lent-requires
+read-lent-requires c κs = search needs
+
+show-answer-requires : tie.Need-show-answer-requires
+show-answer-requires c κs = search needs
 
 same-length : tie.Need-same-length
 same-length c = search needs
@@ -27,8 +30,9 @@ pub read-first-spec : {M : Type 1} → statement M
 read-first-spec =
     tie.close
     (tie.spec
-    slice-aggregate-show-into
-    show-into-requires
+    slice-aggregate-read-lent
+    read-lent-requires
+    show-answer-requires
     same-length
     same-length-2
     returns

@@ -5,11 +5,17 @@ use borrow.Author.Needs.{needs}
 use Rattle.damaged.proofs.write_first.Statement.{statement}
 use Rattle.damaged.proofs.write_first.Tie as tie
 
+slice-aggregate-write : tie.Need-slice-aggregate-write
+slice-aggregate-write c = simp length-take (omega arith)
+
+slice-aggregate-write-2 : tie.Need-slice-aggregate-write-2
+slice-aggregate-write-2 c = simp length-take (omega arith)
+
 slice-relend-prefix-write : tie.Need-slice-relend-prefix-write
 slice-relend-prefix-write c = search needs
 
-slice-aggregate-write : tie.Need-slice-aggregate-write
-slice-aggregate-write c = simp length-take (omega arith)
+slice-aggregate-write-3 : tie.Need-slice-aggregate-write-3
+slice-aggregate-write-3 c = simp length-take (omega arith)
 
 write-requires : tie.Need-write-requires
 write-requires c κs = search needs
@@ -30,8 +36,10 @@ pub write-first-spec : {M : Type 1} → statement M
 write-first-spec =
     tie.close
     (tie.spec
-    slice-relend-prefix-write
     slice-aggregate-write
+    slice-aggregate-write-2
+    slice-relend-prefix-write
+    slice-aggregate-write-3
     write-requires
     show-written-requires
     same-length

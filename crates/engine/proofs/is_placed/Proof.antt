@@ -1,6 +1,6 @@
 -- A step's place is looked at, any other call has none.
-use mathlib.Core.Path.{_≡_, sym, ap}
-use Rattle.engine.specs.Calls.{placedIn}
+use mathlib.Core.Path.{sym, ap}
+use Rattle.rules.specs.Calls.{placedIn}
 use borrow.Author.Needs.{needs}
 use Rattle.engine.proofs.is_placed.Statement.{statement}
 use Rattle.engine.proofs.is_placed.Tie as tie

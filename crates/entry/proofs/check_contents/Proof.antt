@@ -1,11 +1,11 @@
 -- The first refusal, in the page's order.
-use mathlib.Core.Path.{_≡_, sym, ap, _∙_}
+use mathlib.Core.Path.{_≡_, sym, _∙_}
 use mathlib.Core.List.{[]}
 use Rattle.rules.specs.Calls.{repeats, limits}
-use Rattle.rules.specs.Calls.Checked.{Accepted, Refuse}
+use Rattle.plan.specs.declared.Checked.the-variants.{Accepted, Refused}
 use Rattle.rows.specs.View.{resourcesOf}
 use Rattle.rows.proofs.View.{length-resources}
-use Rattle.entry.specs.Checks.{checkedOf, contents}
+use Rattle.entry.specs.Checks.{contents}
 use borrow.Author.Needs.{needs}
 use Rattle.entry.proofs.check_contents.Statement.{statement}
 use Rattle.entry.proofs.check_contents.Tie as tie
@@ -35,8 +35,8 @@ returns : tie.Need-returns
 unfolding contents
 returns c =
     let b = c .before .before .before in
-    let e : repeats 0 [] (resourcesOf (b .before .args .q .now)) ≡ Refuse (c .before .identifiers .given .0 .0) =
-    sym (b .check-identifiers .ensures) ∙ ap checkedOf (c .before .identifiers .given .1) in
+    let e : repeats 0 [] (resourcesOf (b .before .args .q .now)) ≡ Refused (c .before .identifiers .given .0 .0) =
+    sym (b .check-identifiers .ensures) ∙ c .before .identifiers .given .1 in
     rw e
 
 returns-2 : tie.Need-returns-2
@@ -45,9 +45,9 @@ returns-2 c =
     let l = c .before .before .before in
     let b = l .before .before .before in
     let e : repeats 0 [] (resourcesOf (b .before .args .q .now)) ≡ Accepted =
-    sym (b .check-identifiers .ensures) ∙ ap checkedOf (l .before .enum-told .given .1) in
-    let f : limits 0 (resourcesOf (b .before .args .q .now)) ≡ Refuse (c .before .limits .given .0 .0) =
-    sym (l .check-limits .ensures) ∙ ap checkedOf (c .before .limits .given .1) in
+    sym (b .check-identifiers .ensures) ∙ l .before .enum-told .given .1 in
+    let f : limits 0 (resourcesOf (b .before .args .q .now)) ≡ Refused (c .before .limits .given .0 .0) =
+    sym (l .check-limits .ensures) ∙ c .before .limits .given .1 in
     rw (e, f)
 
 returns-3 : tie.Need-returns-3
@@ -56,8 +56,8 @@ returns-3 c =
     let l = c .before .before .before in
     let b = l .before .before .before in
     let q = b .before .args .q .now in
-    let e : repeats 0 [] (resourcesOf q) ≡ Accepted = sym (b .check-identifiers .ensures) ∙ ap checkedOf (l .before .enum-told .given .1) in
-    let f : limits 0 (resourcesOf q) ≡ Accepted = sym (l .check-limits .ensures) ∙ ap checkedOf (c .before .enum-told2 .given .1) in
+    let e : repeats 0 [] (resourcesOf q) ≡ Accepted = sym (b .check-identifiers .ensures) ∙ l .before .enum-told .given .1 in
+    let f : limits 0 (resourcesOf q) ≡ Accepted = sym (l .check-limits .ensures) ∙ c .before .enum-told2 .given .1 in
     rw (e, f, length-resources q) (c .check-tasks .ensures)
 
 pub check-contents-spec : {M : Type 1} → statement M

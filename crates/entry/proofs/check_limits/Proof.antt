@@ -1,8 +1,10 @@
 -- The limits from place k on give the answer.
 use mathlib.Core.Bool.{true, false}
 use lib.ListN.{getD, length}
-use Rattle.plan.specs.Powers.{powerFits}
-use Rattle.rows.specs.View.{noResource, resourcesOf}
+use Rattle.integers.specs.Hull.{within}
+use Rattle.plan.specs.Powers.{powerEnds}
+use Rattle.plan.specs.Tasks.{noResource}
+use Rattle.rows.specs.View.{resourcesOf}
 use mathlib.Core.Path.{_≡_, sym, _∙_}
 use Prim.Native.Nat.{_≤_, _<_, _-_}
 use native.Mathlib.Omega.{arith}
@@ -39,7 +41,7 @@ loop-again c =
     let b = c .before .before .before .before in
     let qs = resourcesOf (b .before .args .q .now) in
     let l : b .loop .k < length qs = omega (arith, length-resources (b .before .args .q .now)) in
-    let h : powerFits ((getD qs (b .loop .k) noResource) .limit) ≡ true =
+    let h : within powerEnds ((getD qs (b .loop .k) noResource) .limit .0) ≡ true =
     rw (c .before .before .limit-at .ensures) at (sym (c .before .fits2 .ensures) ∙ c .if1 .taken) in
     (omega arith, limits-past qs (b .loop .k) l h ∙ b .loop .inv .1)
 
@@ -48,7 +50,7 @@ returns c =
     let b = c .before .before .before .before in
     let qs = resourcesOf (b .before .args .q .now) in
     let l : b .loop .k < length qs = omega (arith, length-resources (b .before .args .q .now)) in
-    let h : powerFits ((getD qs (b .loop .k) noResource) .limit) ≡ false =
+    let h : within powerEnds ((getD qs (b .loop .k) noResource) .limit .0) ≡ false =
     rw (c .before .before .limit-at .ensures) at (sym (c .before .fits2 .ensures) ∙ c .if1 .left) in
     sym (limits-here qs (b .loop .k) l h) ∙ b .loop .inv .1
 

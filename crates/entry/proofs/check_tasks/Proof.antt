@@ -2,7 +2,8 @@
 use mathlib.Core.Bool.{true, false}
 use lib.ListN.{getD, length}
 use Rattle.rules.specs.Calls.{rangesFit, setFits, tasksFit}
-use Rattle.rows.specs.View.{noTask, tasksOf}
+use Rattle.plan.specs.Tasks.{noTask}
+use Rattle.rows.specs.View.{tasksOf}
 use mathlib.Core.Path.{_≡_, sym, _∙_}
 use Prim.Native.Nat.{_≤_, _<_, _-_}
 use native.Mathlib.Omega.{arith}

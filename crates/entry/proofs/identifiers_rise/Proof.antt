@@ -4,7 +4,8 @@ use mathlib.Core.Path.{_≡_, sym, _∙_}
 use Prim.Native.Nat.{_≤_, _<_, _-_}
 use lib.ListN.{length, getD}
 use native.Mathlib.Omega.{arith}
-use Rattle.rows.specs.View.{resourcesOf, noResource}
+use Rattle.plan.specs.Tasks.{noResource}
+use Rattle.rows.specs.View.{resourcesOf}
 use Rattle.rows.proofs.View.{length-resources}
 use Rattle.entry.specs.Checks.{belowId, rises}
 use Rattle.entry.proofs.Rising.{risesFrom, rises-none, rises-start, rises-past, rises-here, rises-end}

@@ -6,7 +6,8 @@ use lib.ListN.{getD}
 use native.Mathlib.Omega.{arith}
 use Rattle.integers.specs.Tests.{any}
 use Rattle.integers.specs.Whole.{eqZ}
-use Rattle.rows.specs.View.{resourcesOf, noResource}
+use Rattle.plan.specs.Tasks.{noResource}
+use Rattle.rows.specs.View.{resourcesOf}
 use Rattle.entry.specs.Checks.{seen}
 use Rattle.entry.proofs.Checks.{seen-back, seen-none}
 use borrow.Author.Needs.{needs}

@@ -1,7 +1,8 @@
 -- `events::collect_task`: with or without the resource in its set.
 use native.Mathlib.Omega.{arith}
 use mathlib.Core.Path.{refl, sym, _∙_}
-use Rattle.events.specs.Events.{eventsOf, joined}
+use Rattle.events.specs.Events.{eventsOf}
+use Rattle.events.specs.Extremes.{joined}
 use Rattle.events.proofs.Laid.{laid-none}
 use borrow.Author.Needs.{needs}
 use Rattle.events.proofs.collect_task.Statement.{statement}

@@ -1,21 +1,22 @@
--- `events::day_of`: the part, less what it was moved up by.
+-- `day_of`: the first day, and as many more as the field says.
+use borrow.Author.Needs.{needs}
 use native.Mathlib.Omega.{arith}
 use Prim.Native.Nat.{_/_}
-use Rattle.events.specs.Keys.{dayOf}
-use Rattle.events.proofs.Keys.{less-fits, less-is}
-use borrow.Author.Needs.{needs}
+use Rattle.plan.specs.Days.{dayLow}
+use Rattle.events.specs.Keys.{dayPlace, dayOf}
+use Rattle.events.proofs.Keys.{read-is, read-fits}
 use Rattle.events.proofs.day_of.Statement.{statement}
 use Rattle.events.proofs.day_of.Tie as tie
 
-cast-t3 : tie.Need-cast-t3
-cast-t3 c = search needs
+cast-t4 : tie.Need-cast-t4
+cast-t4 c = search needs
 
-sub-t4 : tie.Need-sub-t4
-sub-t4 c = less-fits (c .args .k / 16777216) 1048576 (omega arith) (omega arith)
+plus-requires : tie.Need-plus-requires
+plus-requires c κs = read-fits dayLow (c .args .k / dayPlace) (omega arith) (omega arith) (omega arith)
 
 returns : tie.Need-returns
 unfolding dayOf
-returns c = less-is (c .args .k / 16777216) 1048576 (omega arith) (omega arith)
+returns c = rw (c .plus .ensures, read-is (c .before .args .k / dayPlace) (omega arith))
 
 pub day-of-spec : {M : Type 1} → statement M
-day-of-spec = tie.close (tie.spec cast-t3 sub-t4 returns)
+day-of-spec = tie.close (tie.spec cast-t4 plus-requires returns)

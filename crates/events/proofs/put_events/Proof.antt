@@ -4,8 +4,7 @@ use mathlib.Core.Path.{sym, _∙_}
 use lib.IntN.{pos}
 use Rattle.integers.proofs.Z.{z}
 use Rattle.events.specs.Events.{changeKeys, taskKeys}
-use Rattle.events.proofs.Fit.{fit-is}
-use Rattle.events.proofs.Events.{hope-fits, sure-fits}
+use Rattle.events.proofs.Fits.{hope-fits, sure-fits}
 use Rattle.events.proofs.Laid.{laid-none, laid-then}
 use borrow.Author.Needs.{needs}
 use Rattle.events.proofs.put_events.Statement.{statement}
@@ -26,8 +25,7 @@ hope-over-requires c κs = search needs
 put-change-requires : tie.Need-put-change-requires
 put-change-requires c κs =
     let a = c .before .before .before .before .before .before .before .before .before in
-    let f = fit-is (a .args .t) (a .pre .1) in
-    (omega arith, rw (c .hope-over .ensures) (hope-fits (a .args .t) f (pos 1) (omega z) (omega z)))
+    (omega arith, rw (c .hope-over .ensures) (hope-fits (a .args .t) (a .pre .1) (pos 1) (omega z)))
 
 same-length : tie.Need-same-length
 same-length c = search needs
@@ -53,8 +51,7 @@ hope-over-requires-2 c κs = search needs
 put-change-requires-2 : tie.Need-put-change-requires-2
 put-change-requires-2 c κs =
     let a = c .before .before .before .before .before .before .before .before .before in
-    let f = fit-is (a .args .t) (a .pre .1) in
-    (omega arith, rw (c .hope-over2 .ensures) (hope-fits (a .args .t) f (pos 0) (omega z) (omega z)))
+    (omega arith, rw (c .hope-over2 .ensures) (hope-fits (a .args .t) (a .pre .1) (pos 0) (omega z)))
 
 sure-over-requires : tie.Need-sure-over-requires
 sure-over-requires c κs = search needs
@@ -63,9 +60,8 @@ put-change-requires-3 : tie.Need-put-change-requires-3
 unfolding changeKeys
 put-change-requires-3 c κs =
     let a = c .before .before .before .before .before .before .before .before .before .before .before .before .before .before in
-    let f = fit-is (a .args .t) (a .pre .1) in
     let p = c .before .before .before .before .put-change2 in
-    (omega (arith, p .ensures .many, p .kept .0), rw (c .sure-over .ensures) (sure-fits (a .args .t) f (pos 0) (omega z) (omega z)))
+    (omega (arith, p .ensures .many, p .kept .0), rw (c .sure-over .ensures) (sure-fits (a .args .t) (a .pre .1) (pos 0) (omega z)))
 
 same-length-2 : tie.Need-same-length-2
 same-length-2 c = search needs
@@ -93,8 +89,7 @@ hope-over-requires-3 c κs = search needs
 put-change-requires-4 : tie.Need-put-change-requires-4
 put-change-requires-4 c κs =
     let a = c .before .before .before .before .before .before .before in
-    let f = fit-is (a .args .t) (a .pre .1) in
-    (omega arith, rw (c .hope-over3 .ensures) (hope-fits (a .args .t) f (pos 0) (omega z) (omega z)))
+    (omega arith, rw (c .hope-over3 .ensures) (hope-fits (a .args .t) (a .pre .1) (pos 0) (omega z)))
 
 same-length-3 : tie.Need-same-length-3
 same-length-3 c = search needs
@@ -118,9 +113,7 @@ sure-over-requires-2 c κs = search needs
 put-change-requires-5 : tie.Need-put-change-requires-5
 put-change-requires-5 c κs =
     let a = c .before .before .before .before .before .before .before in
-    let f = fit-is (a .args .t) (a .pre .1) in
-    let h = f .height in
-    (omega arith, rw (c .sure-over2 .ensures) (sure-fits (a .args .t) f (a .args .t .height .high .0) (omega z) (omega z)))
+    (omega arith, rw (c .sure-over2 .ensures) (sure-fits (a .args .t) (a .pre .1) (a .args .t .height .high .0) (omega (z, a .pre .1 .height))))
 
 same-length-4 : tie.Need-same-length-4
 same-length-4 c = search needs

@@ -1,21 +1,21 @@
--- `events::sure_of`: the part, less what it was moved up by.
+-- `sure_of`: the least change, and as many more as the field says.
+use borrow.Author.Needs.{needs}
 use native.Mathlib.Omega.{arith}
 use Prim.Native.Nat.{_%_}
-use Rattle.events.specs.Keys.{sureOf}
-use Rattle.events.proofs.Keys.{less-fits, less-is}
-use borrow.Author.Needs.{needs}
+use Rattle.events.specs.Keys.{countEnds, countField, sureOf}
+use Rattle.events.proofs.Keys.{read-is, read-fits}
 use Rattle.events.proofs.sure_of.Statement.{statement}
 use Rattle.events.proofs.sure_of.Tie as tie
 
-cast-t3 : tie.Need-cast-t3
-cast-t3 c = search needs
+cast-t4 : tie.Need-cast-t4
+cast-t4 c = search needs
 
-sub-t4 : tie.Need-sub-t4
-sub-t4 c = less-fits (c .args .k % 4) 1 (omega arith) (omega arith)
+plus-requires : tie.Need-plus-requires
+plus-requires c κs = read-fits (countEnds .low) (c .args .k % countField) (omega arith) (omega arith) (omega arith)
 
 returns : tie.Need-returns
 unfolding sureOf
-returns c = less-is (c .args .k % 4) 1 (omega arith) (omega arith)
+returns c = rw (c .plus .ensures, read-is (c .before .args .k % countField) (omega arith))
 
 pub sure-of-spec : {M : Type 1} → statement M
-sure-of-spec = tie.close (tie.spec cast-t3 sub-t4 returns)
+sure-of-spec = tie.close (tie.spec cast-t4 plus-requires returns)

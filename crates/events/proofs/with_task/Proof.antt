@@ -1,5 +1,5 @@
 -- `events::with_task`: each of the four joined to the task's.
-use Rattle.events.specs.Events.{withTask}
+use Rattle.events.specs.Extremes.{withTask}
 use borrow.Author.Needs.{needs}
 use Rattle.events.proofs.with_task.Statement.{statement}
 use Rattle.events.proofs.with_task.Tie as tie

@@ -3,14 +3,14 @@ use borrow.Author.Needs.{needs}
 use Rattle.gristwaltz.proofs.gristwaltz_balance.Statement.{statement}
 use Rattle.gristwaltz.proofs.gristwaltz_balance.Tie as tie
 
-call-file-requires : tie.Need-call-file-requires
-call-file-requires c κs = search needs
+apply-to-file-requires : tie.Need-apply-to-file-requires
+apply-to-file-requires c κs = search needs
 
 same-length : tie.Need-same-length
 same-length c = search needs
 
 returns : tie.Need-returns
-returns c = c .before .before .call-file .ensures
+returns c = c .before .before .apply-to-file .ensures
 
 pub gristwaltz-balance-spec : {M : Type 1} → statement M
-gristwaltz-balance-spec = tie.close (tie.spec call-file-requires same-length returns)
+gristwaltz-balance-spec = tie.close (tie.spec apply-to-file-requires same-length returns)

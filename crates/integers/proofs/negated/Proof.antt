@@ -3,7 +3,6 @@ use lib.IntN.{pos, _-ℤ_, +ℤ-idl}
 use mir.Syntax.{w64}
 use mir.Val.{SFits}
 use mir.Facts.{toZ-ofZ}
-use borrow.Author.Needs.{needs}
 use Rattle.integers.proofs.negated.Statement.{statement}
 use Rattle.integers.proofs.negated.Tie as tie
 

@@ -42,7 +42,7 @@ use Rattle.plan.proofs.Resource.Laws as Q′
 use Rattle.format.specs.Reading.{readResult}
 use Rattle.format.proofs.ReadAnswer as An
 use Rattle.format.proofs.ReadAnswer.Laws as An′
-use Rattle.copies.specs.Loaded.{noTask, noResource}
+use Rattle.plan.specs.Tasks.{mostTasks, mostResources, noTask, noResource}
 use Rattle.copies.proofs.Rows.{typed, as-records}
 use Rattle.copies.proofs.Calls.{Gives, Answer, asked}
 use Rattle.copies.proofs.Store.{Stored, stores}
@@ -73,10 +73,10 @@ stayed = (stay-none-slice (0 ∷ []) tt (plain (λ _. u8)) yes, (gave-slice (1 �
 
 -- what is taken out, taken apart
 parts : (r : Taken) (v : Val) → Is Tk.the-row r (v ∷ []) → (u : Val × Val × Val)
-    × ((v ≡ takenVal (u .0) (u .1) (r .listed) (u .2) (r .stored)) × Is An.the-row (r .answer) (u .0 ∷ []) × Is (Array Q.the-row 16) (r .resources) (u .1 ∷ []) × (r .listed < 2 ^ 64) × Is (Array T.the-row 256) (r .tasks) (u .2 ∷ []) × (r .stored < 2 ^ 64))
+    × ((v ≡ takenVal (u .0) (u .1) (r .listed) (u .2) (r .stored)) × Is An.the-row (r .answer) (u .0 ∷ []) × Is (Array Q.the-row mostResources) (r .resources) (u .1 ∷ []) × (r .listed < 2 ^ 64) × Is (Array T.the-row mostTasks) (r .tasks) (u .2 ∷ []) × (r .stored < 2 ^ 64))
 parts r v g =
     let o = LL.owed Tk.the-type Tk′.the-laws r _ g in
-    ((_, _, _), (ap only (LL.tells Tk.the-type Tk′.the-laws r _ g), o .0, as-records Q.the-type Q′.the-laws 16 (r .resources) _ (o .1 .0), o .1 .1 .0 .1, as-records T.the-type T′.the-laws 256 (r .tasks) _ (o .1 .1 .1 .0), o .1 .1 .1 .1 .0 .1))
+    ((_, _, _), (ap only (LL.tells Tk.the-type Tk′.the-laws r _ g), o .0, as-records Q.the-type Q′.the-laws mostResources (r .resources) _ (o .1 .0), o .1 .1 .0 .1, as-records T.the-type T′.the-laws mostTasks (r .tasks) _ (o .1 .1 .1 .0), o .1 .1 .1 .1 .0 .1))
 
 module _ {M : Type 1} (𝓤 : URA M) (H : Heap 𝓤) (A : Atoms 𝓤) (W : Given 𝓤 H A) (mem : Memory → SProp 𝓤) (run : Routine → Fun 𝓤) where
   -- the contracts that the walk cites
@@ -144,12 +144,12 @@ module _ {M : Type 1} (𝓤 : URA M) (H : Heap 𝓤) (A : Atoms 𝓤) (W : Given
 
       walk : ent 𝓤 (onEntry 𝓤 H A read.signature (κ₀, (κ₁, (κ₂, tt))) (q₀, (q₁, (q₂, tt))) x at) (WpFn 𝓤 H (𝓣 .C) (𝓣 .Λ) code.function (sb ∷ s₀ ∷ s ∷ []) Post)
       walk =
-          walked-once u8 Q.the-row T.the-row An.the-row Tk.the-row 16 256 Q′.mir T′.mir An′.mir (Tk.the-type .name) (λ r. r .answer) (λ r. r .resources) (λ r. r .listed) (λ r. r .tasks) (λ r. r .stored)
+          walked-once u8 Q.the-row T.the-row An.the-row Tk.the-row mostResources mostTasks Q′.mir T′.mir An′.mir (Tk.the-type .name) (λ r. r .answer) (λ r. r .resources) (λ r. r .listed) (λ r. r .tasks) (λ r. r .stored)
           𝓤 H A W 𝓣 κ₀ κ₁ κ₂ q₀ q₁ q₂ refB refQ refT Post gb gq gt #take-plan #store-resources #store-tasks φ taking
-          (λ ps v n. stores Q.the-type Q′.the-laws Q′.the-plain 16 noResource 𝓤 H A W 𝓣 #store-resources known-resources κ₁ q₁ (refQ .ptr .0) (refQ .ptr .1) (refQ .name) qs ps v n)
-          (λ ps v n. stores T.the-type T′.the-laws T′.the-plain 256 noTask 𝓤 H A W 𝓣 #store-tasks known-tasks κ₂ q₂ (refT .ptr .0) (refT .ptr .1) (refT .name) ts ps v n)
+          (λ ps v n. stores Q.the-type Q′.the-laws Q′.the-plain mostResources noResource 𝓤 H A W 𝓣 #store-resources known-resources κ₁ q₁ (refQ .ptr .0) (refQ .ptr .1) (refQ .name) qs ps v n)
+          (λ ps v n. stores T.the-type T′.the-laws T′.the-plain mostTasks noTask 𝓤 H A W 𝓣 #store-tasks known-tasks κ₂ q₂ (refT .ptr .0) (refT .ptr .1) (refT .name) ts ps v n)
           (λ r v g. LL.lawful Tk.the-type Tk′.the-laws 𝓤 H A W .typed r _ g .0) (λ a v g. EL.lawful An.the-type An′.the-laws 𝓤 H A W tt .typed a _ g .0)
-          (typed Q.the-type Q′.the-laws 𝓤 H A W 16) (typed T.the-type T′.the-laws 𝓤 H A W 256) parts (λ r g. let b = g qs ts refl refl in (b .0, b .1, b .2, b .3)) exits
+          (typed Q.the-type Q′.the-laws 𝓤 H A W mostResources) (typed T.the-type T′.the-laws 𝓤 H A W mostTasks) parts (λ r g. let b = g qs ts refl refl in (b .0, b .1, b .2, b .3)) exits
 
     read-meets : Meets 𝓤 H A read.signature (WpFn 𝓤 H (𝓣 .C) (𝓣 .Λ) code.function) (read.spec 𝓤 H A mem run)
     read-meets = walk-meets 𝓤 H A read.ended stayed W (goes-none-slice 𝓤 H A W 3 (0 ∷ []) tt (plain (λ _. u8)) yes, (goes-gave-slice 𝓤 H A W 3 1 tt (plain (λ _. Q.the-row)), (goes-gave-slice 𝓤 H A W 3 2 tt (plain (λ _. T.the-row)), tt)))

@@ -45,7 +45,9 @@ use Rattle.format.proofs.WriteAnswer as An
 use Rattle.format.proofs.WriteAnswer.Laws as An′
 use Rattle.copies.specs.declared.Resources.{Resources}
 use Rattle.copies.specs.declared.Tasks.{Tasks}
-use Rattle.copies.specs.Loaded.{noTask, noResource, loadedTasks, loadedResources}
+use Rattle.plan.specs.Tasks.{mostTasks, mostResources, noTask, noResource}
+use Rattle.copies.specs.Loaded.{loadedTasks, loadedResources}
+use Rattle.arrays.proofs.Loaded.{loaded-held}
 use Rattle.copies.proofs.Tasks as Ts
 use Rattle.copies.proofs.Tasks.Laws as Ts′
 use Rattle.copies.proofs.Resources as Qs
@@ -144,7 +146,7 @@ module _ {M : Type 1} (𝓤 : URA M) (H : Heap 𝓤) (A : Atoms 𝓤) (W : Given
         exits v y h =
             qed W (‵ (flft κ₀ q₀) ∷ ‵ (flft κ₁ q₁) ∷ ‵ (flft κ₂ q₂) ∷ ‵ OwnQ ∷ ‵ OwnT ∷ ‵ (finally u8 (refO .name) (y .1)) ∷ []) ∵
             suffices ! _ (ends-at 𝓤 H A write.ended stayed (write.clauses 𝓤 H A mem run) W (((κ₀, (κ₁, (κ₂, tt))), (q₀, (q₁, (q₂, tt))), tt, x, at), tt) v (y .0) (tt, (tt, (tt, (y .1, tt)))) (tt, (tt, (tt, (h .1, tt))))) $
-            says ! (h .0 qs ts refl refl) $
+            says ! (h .0 qs ts (loaded-held q p qs ts refl refl)) $
             nothing ! $ move ! (3 ∷ 0 ∷ []) $ join ! $ move ! (2 ∷ 0 ∷ []) $ join ! $ move ! (1 ∷ 0 ∷ []) $ join ! $ frame ! $ nothing ! $ move ! (3 ∷ 0 ∷ []) $ fjoin ! $ move ! (2 ∷ 0 ∷ []) $ fjoin ! $ move ! (1 ∷ 0 ∷ []) $ fjoin ! $
             owned ! S.the-row (Is S.the-row) (EL.makes S.the-type S′.the-plain 𝓤 H A) e _ ge $ fjoin ! $ frame ! $ owned ! An.the-row (Is An.the-row) (EL.makes An.the-type An′.the-plain 𝓤 H A) (y .0) _ (h .2) $ done !
 
@@ -180,8 +182,8 @@ module _ {M : Type 1} (𝓤 : URA M) (H : Heap 𝓤) (A : Atoms 𝓤) (W : Given
         walk g₀ gn go =
             walked-once Q.the-row T.the-row u8 S.the-row An.the-row Qs.the-row Ts.the-row (tyInt w8) S′.mir An′.mir Qs′.mir Ts′.mir 𝓤 H A W 𝓣 κ₀ κ₁ κ₂ q₀ q₁ q₂ e ve refQ refT refO Post
             #load-resources #load-tasks #write-loaded q p φ
-            (loads Q.the-type Q′.the-laws Q′.the-copy Q′.the-plain 16 noResource Qs.the-type Qs′.the-laws Qs′.the-plain loadedResources 𝓤 H A W 𝓣 #load-resources known-resources κ₀ q₀ (refQ .ptr .0) (refQ .ptr .1) (refQ .name) qs)
-            (loads T.the-type T′.the-laws T′.the-copy T′.the-plain 256 noTask Ts.the-type Ts′.the-laws Ts′.the-plain loadedTasks 𝓤 H A W 𝓣 #load-tasks known-tasks κ₁ q₁ (refT .ptr .0) (refT .ptr .1) (refT .name) ts)
+            (loads Q.the-type Q′.the-laws Q′.the-copy Q′.the-plain mostResources noResource Qs.the-type Qs′.the-laws Qs′.the-plain loadedResources 𝓤 H A W 𝓣 #load-resources known-resources κ₀ q₀ (refQ .ptr .0) (refQ .ptr .1) (refQ .name) qs)
+            (loads T.the-type T′.the-laws T′.the-copy T′.the-plain mostTasks noTask Ts.the-type Ts′.the-laws Ts′.the-plain loadedTasks 𝓤 H A W 𝓣 #load-tasks known-tasks κ₁ q₁ (refT .ptr .0) (refT .ptr .1) (refT .name) ts)
             writes (λ v g. LL.lawful Qs.the-type Qs′.the-laws 𝓤 H A W .typed q _ g .0) (λ v g. LL.lawful Ts.the-type Ts′.the-laws 𝓤 H A W .typed p _ g .0) (λ a v g. EL.lawful An.the-type An′.the-laws 𝓤 H A W tt .typed a _ g .0) exits
             g₀ gn go (EL.lawful S.the-type S′.the-laws 𝓤 H A W tt .typed e _ ge .0)
 

@@ -2,9 +2,8 @@
 use native.Mathlib.Omega.{arith}
 use mathlib.Core.Path.{sym}
 use lib.Seq.{length-take-le}
-use Rattle.rules.specs.Calls.{mostResources, mostTasks}
+use Rattle.plan.specs.Tasks.{mostResources, mostTasks}
 use Rattle.lent.proofs.Packed.{resources-packed, tasks-packed}
-use Rattle.lent.proofs.Writing.{write-same}
 use borrow.Author.Needs.{needs}
 use Rattle.lent.proofs.write_few.Statement.{statement}
 use Rattle.lent.proofs.write_few.Tie as tie
@@ -50,9 +49,9 @@ returns c =
     let r = t .before .before .before in
     let a = r .before .before .before .before .before .args in
     let g = r .before .before .before .before .before .pre in
-    write-same (a .sense) (a .out .now) (w .write .ensures)
-    (resources-packed (a .q .count) mostResources (g .0) (r .pack-resources .last .1 .0) (a .q .list) (r .pack-resources .ensures))
-    (tasks-packed (a .p .count) mostTasks (g .1) (t .pack-tasks .last .1 .0) (a .p .list) (t .pack-tasks .ensures))
+    let q = resources-packed (a .q .count) mostResources (g .0) (r .pack-resources .last .1 .0) (a .q .list) (r .pack-resources .ensures) in
+    let p = tasks-packed (a .p .count) mostTasks (g .1) (t .pack-tasks .last .1 .0) (a .p .list) (t .pack-tasks .ensures) in
+    rw (q, p) at (w .write .ensures)
 
 pub write-few-spec : {M : Type 1} → statement M
 write-few-spec =

@@ -15,9 +15,9 @@ finish-requires c κs = search needs
 
 returns : tie.Need-returns
 returns c =
-    λ limit ts known among.
+    λ among limit ts known.
     let n = c .before .before in
-    c .finish .ensures ∙ c .before .narrow-only .ensures limit ts known (sym (n .before .only-resource .ensures) ∙ n .if1 .taken)
+    c .finish .ensures ∙ c .before .narrow-only .ensures (sym (n .before .only-resource .ensures) ∙ n .if1 .taken) limit ts known
 
 narrow-shared-requires : tie.Need-narrow-shared-requires
 narrow-shared-requires c κs = search needs
@@ -27,18 +27,10 @@ finish-requires-2 c κs = search needs
 
 returns-2 : tie.Need-returns-2
 returns-2 c =
-    λ limit ts known among.
+    λ among limit ts known.
     let n = c .before .before in
-    c .finish2 .ensures ∙ c .before .narrow-shared .ensures limit ts known (sym (n .before .only-resource .ensures) ∙ n .if1 .left) among
+    c .finish2 .ensures ∙ c .before .narrow-shared .ensures (sym (n .before .only-resource .ensures) ∙ n .if1 .left) among limit ts known
 
 pub narrow-here-spec : {M : Type 1} → statement M
 narrow-here-spec =
-    tie.close
-    (tie.spec
-    only-resource-requires
-    narrow-only-requires
-    finish-requires
-    returns
-    narrow-shared-requires
-    finish-requires-2
-    returns-2)
+    tie.close (tie.spec only-resource-requires narrow-only-requires finish-requires returns narrow-shared-requires finish-requires-2 returns-2)

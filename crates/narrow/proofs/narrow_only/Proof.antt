@@ -10,7 +10,7 @@ narrow-free-requires : tie.Need-narrow-free-requires
 narrow-free-requires c κs = search needs
 
 returns : tie.Need-returns
-returns c = λ limit ts known alone. c .narrow-free .ensures limit ts known alone (c .before .before .is-free .ensures (c .before .if1 .taken))
+returns c = λ alone. c .narrow-free .ensures alone (c .before .before .is-free .ensures (c .before .if1 .taken))
 
 narrow-barred-requires : tie.Need-narrow-barred-requires
 narrow-barred-requires c κs = search needs
@@ -19,6 +19,4 @@ returns-2 : tie.Need-returns-2
 returns-2 c = search needs
 
 pub narrow-only-spec : {M : Type 1} → statement M
-narrow-only-spec =
-    tie.close
-    (tie.spec is-free-requires narrow-free-requires returns narrow-barred-requires returns-2)
+narrow-only-spec = tie.close (tie.spec is-free-requires narrow-free-requires returns narrow-barred-requires returns-2)

@@ -4,14 +4,13 @@ use mathlib.Core.Path.{_≡_, sym, ap, _∙_, subst}
 use mathlib.Core.List.{List}
 use Prim.Native.Nat.{_-_}
 use lib.ListN.{take, drop}
-use Rattle.plan.proofs.Sets.{has-not-zero}
 use Rattle.stretches.specs.declared.Stretch.{Stretch}
 use Rattle.stretches.specs.View.{stretchesOf}
 use Rattle.stretches.specs.Tells.{Ordered, Tells}
 use Rattle.stretches.proofs.View.{length-stretches, stretches-take, stretches-drop}
-use Rattle.searches.specs.declared.Days.{Days}
 use Rattle.narrow.specs.Window.{Over, Ahead}
-use Rattle.narrow.proofs.Others.{fit-out}
+use Rattle.plan.proofs.Sets.{has-not-zero}
+use Rattle.rules.proofs.Live.{live-bounded}
 use Rattle.narrow.proofs.Window.{part-tells, none-page}
 use borrow.Author.Needs.{needs}
 use Rattle.narrow.proofs.narrow_window.Statement.{statement}
@@ -42,19 +41,17 @@ narrow-here-requires : tie.Need-narrow-here-requires
 narrow-here-requires c κs = search needs
 
 -- the stretches before the window are over by the first possible day, and those after it begin past the last
-over : (c : tie.After-past-met) → let a = c .before .before .before in Ordered (stretchesOf (a .args .ss .now)) → Over (stretchesOf (a .args .ss .now)) (a .args .t .origin .low .0) (c .before .first-met .result)
-over c o =
-    let n = c .before in
-    subst (λ (w : Days). Over (stretchesOf (n .before .before .args .ss .now)) (w .from .0) (n .first-met .result)) (n .before .possible-days .ensures) (n .first-met .ensures o)
+over : (c : tie.After-past-met) → let a = c .before .before .before .args in
+    Ordered (stretchesOf (a .ss .now)) → Over (stretchesOf (a .ss .now)) (a .t .origin .low .0) (c .before .first-met .result)
+over c o = rw (c .before .before .possible-days .ensures) at (c .before .first-met .ensures o)
 
-ahead : (c : tie.After-past-met) → let a = c .before .before .before in Ordered (stretchesOf (a .args .ss .now)) → Ahead (stretchesOf (a .args .ss .now)) (a .args .t .end .high .0) (c .past-met .result)
-ahead c o =
-    let n = c .before .before in
-    subst (λ (w : Days). Ahead (stretchesOf (n .before .args .ss .now)) (w .to .0) (c .past-met .result)) (n .possible-days .ensures) (c .past-met .ensures .1 o)
+ahead : (c : tie.After-past-met) → let a = c .before .before .before .args in
+    Ordered (stretchesOf (a .ss .now)) → Ahead (stretchesOf (a .ss .now)) (a .t .end .high .0) (c .past-met .result)
+ahead c o = rw (c .before .before .possible-days .ensures) at (c .past-met .ensures .1 o)
 
 returns : tie.Need-returns
 returns c =
-    λ limit ts known among.
+    λ among limit ts known.
     let n = c .before .before .before in
     let a = n .before .before .before in
     let t = a .args .t in
@@ -67,33 +64,22 @@ returns c =
     let e : take (high - low) (drop low ss) ≡ stretchesOf (take (high - low) (drop low rows)) =
     sym (stretches-take (high - low) (drop low rows) ∙ ap (take (high - low)) (stretches-drop low rows)) in
     let p =
-    part-tells r limit ts t (fit-out t (a .pre .0 .fits)) ss (known .tells) low high (over n o) (ahead n o)
+    part-tells r limit ts t (live-bounded t (a .pre .0 .fits) (has-not-zero (t .set) (a .args .r) among)) ss (known .tells) low high (over n o) (ahead n o)
     (omega arith) (omega (arith, n .past-met .ensures .0, length-stretches rows)) in
-    c .narrow-here .ensures limit ts
+    c .narrow-here .ensures among limit ts
     (record { tells = subst (λ (x : List Stretch). Tells r limit ts t x) e p; among = known .among; enough = known .enough })
-    among
 
 returns-2 : tie.Need-returns-2
 returns-2 c =
-    λ limit ts known among.
+    λ among limit ts known.
     let n = c .before in
     let a = n .before .before .before in
     let t = a .args .t in
     let o = known .tells .ordered in
-    none-page (a .args .r) limit ts t (fit-out t (a .pre .0 .fits)) (stretchesOf (a .args .ss .now)) (known .tells)
-    (n .before .first-met .result) (n .past-met .result) (over n o) (ahead n o) (omega arith) (has-not-zero (t .set) (a .args .r) among)
+    none-page (a .args .r) limit ts t (live-bounded t (a .pre .0 .fits) (has-not-zero (t .set) (a .args .r) among)) (stretchesOf (a .args .ss .now)) (known .tells)
+    (n .before .first-met .result) (n .past-met .result) (over n o) (ahead n o) (omega arith)
 
 pub narrow-window-spec : {M : Type 1} → statement M
 narrow-window-spec =
     tie.close
-    (tie.spec
-    possible-days-requires
-    first-met-requires
-    past-met-requires
-    mul-narrow-here
-    sub-narrow-here
-    part-narrow-here-start
-    part-narrow-here-end
-    narrow-here-requires
-    returns
-    returns-2)
+    (tie.spec possible-days-requires first-met-requires past-met-requires mul-narrow-here sub-narrow-here part-narrow-here-start part-narrow-here-end narrow-here-requires returns returns-2)

@@ -9,12 +9,11 @@ possible-days-requires c κs = search needs
 running-days-requires : tie.Need-running-days-requires
 running-days-requires c κs = search needs
 
-under-requires : tie.Need-under-requires
-under-requires c κs = search needs
+bar-of-requires : tie.Need-bar-of-requires
+bar-of-requires c κs = search needs
 
 returns : tie.Need-returns
-returns c = simp (c .before .before .possible-days .ensures, c .before .running-days .ensures, c .under .ensures)
+returns c = simp (c .before .before .possible-days .ensures, c .before .running-days .ensures, c .bar-of .ensures)
 
 pub reach-of-spec : {M : Type 1} → statement M
-reach-of-spec =
-    tie.close (tie.spec possible-days-requires running-days-requires under-requires returns)
+reach-of-spec = tie.close (tie.spec possible-days-requires running-days-requires bar-of-requires returns)

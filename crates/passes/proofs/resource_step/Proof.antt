@@ -1,56 +1,61 @@
--- The step's own function asked with the limit as it faces the steps.
+-- The step's own function asked with the resource's limit; what it touched is noted.
 use borrow.Author.Needs.{needs}
 use native.Mathlib.Omega.{arith}
-use mathlib.Core.Path.{_≡_, ap, _∙_}
-use mathlib.Core.Bool.{true}
+use mathlib.Core.Path.{refl, sym, ap, _∙_, subst}
 use mathlib.Core.List.{List}
-use Prim.Native.Nat.{ℕ, _<_}
-use lib.ListN.{length, getD}
-use Rattle.plan.specs.declared.Resource.{Resource}
+use Prim.Native.Nat.{_<_}
+use Rattle.integers.specs.Ends.{Within}
+use Rattle.plan.specs.declared.Power.{Power}
 use Rattle.plan.specs.declared.Task.{Task}
-use Rattle.plan.specs.Powers.{powerFits}
-use Rattle.rows.specs.View.{tasksOf, resourcesOf, noTask, noResource}
-use Rattle.rows.proofs.Fits.{Accepts, accepts}
-use Rattle.passes.specs.Facing.{resourcesFacing}
-use Rattle.passes.proofs.Room.{place-inside, place-small}
-use Rattle.passes.proofs.Mask.{limited, fits-wide}
+use Rattle.plan.specs.Powers.{powerEnds}
+use Rattle.plan.specs.Sets.{union}
+use Rattle.rules.specs.Frame.{Frame, resourceCount, limitOn}
+use Rattle.rules.specs.Step.{atLeastStep}
+use Rattle.rules.proofs.Checks.{Accepts, accepts, check-wide}
+use Rattle.rows.specs.View.{tasksOf, atLeast}
+use Rattle.rows.proofs.View.{length-tasks}
+use Rattle.idle.proofs.Mask.{at-least-step, step-took}
+use Rattle.passes.proofs.Ready.{place-inside, place-small}
 use Rattle.passes.proofs.resource_step.Statement.{statement}
 use Rattle.passes.proofs.resource_step.Tie as tie
 
-abbrev qs : tie.Start → List Resource
-qs c = resourcesFacing (c .args .sense) (resourcesOf (c .args .q .now))
+abbrev f : tie.Start → Frame
+f c = atLeast (c .args .q .now)
 
 abbrev ts : tie.Start → List Task
 ts c = tasksOf (c .args .s .now)
 
-known : (c : tie.Start) → Accepts (qs c) (ts c)
-known c = accepts (qs c) (ts c) (c .pre .0 .1)
+known : (c : tie.Start) → Accepts (f c) (ts c)
+known c = accepts (f c) (ts c) (c .pre .0 .1 .accepted)
 
-inside : (c : tie.Start) → c .args .r < length (qs c)
-inside c = place-inside (c .args .sense) (c .args .q .now) (c .args .r) (c .pre .0 .0)
+inside : (c : tie.Start) → c .args .r < resourceCount (f c)
+inside c = place-inside (c .args .q .now) (c .args .r) (c .pre .0 .0)
 
-limit-facing-requires : tie.Need-limit-facing-requires
-limit-facing-requires c κs =
-    let b = c .before .before in
-    (b .pre .0 .0, known b .limits noResource (b .args .r) (inside b))
+small : (c : tie.Start) → c .args .r < 64
+small c = place-small (c .pre .0 .1) (c .args .r) (c .pre .0 .0)
 
-limit-fits : (c : tie.After-limit-facing) → powerFits (c .limit-facing .result) ≡ true
-limit-fits c =
-    let b = c .before .before .before in
-    ap powerFits (c .limit-facing .ensures) ∙ known b .limits noResource (b .args .r) (inside b)
+limit-at-requires : tie.Need-limit-at-requires
+limit-at-requires c κs = search needs
 
 step-requires : tie.Need-step-requires
 step-requires c κs =
-    let b = c .before .before .before .before .before .before .before in
-    let k = known b in (
+    let l = c .before .before .before .before in
+    let b = l .before .before .before in
+    let k = known b in
+    let r = b .args .r in (
       record {
-        place = place-small (qs b) (ts b) (b .args .r) (b .pre .0 .1) (inside b);
-        few = k .few;
-        fit = λ j l. fits-wide (length (qs b)) (getD (ts b) j noTask) (omega (arith, k .most)) (k .tasks noTask j l);
-        limited = limit-fits (c .before .before .before .before);
+        place = small b;
+        limited = subst (λ (p : Power). Within powerEnds (p .0)) (sym (l .limit-at .ensures)) (k .limits r (inside b));
+        few = omega (arith, k .few, length-tasks (b .args .s .now));
       },
-      b .pre .1,
+      (b .pre .0 .1 .lent, check-wide (f b) (ts b) (b .pre .0 .1 .accepted)),
     )
+
+some-touched-requires : tie.Need-some-touched-requires
+some-touched-requires c κs = search needs
+
+without-resource-requires : tie.Need-without-resource-requires
+without-resource-requires c κs = small (c .before .before .before .before .before .before .before .before .before .before .before .before .before .before .before)
 
 same-length : tie.Need-same-length
 same-length c = search needs
@@ -65,21 +70,25 @@ same-length-4 : tie.Need-same-length-4
 same-length-4 c = search needs
 
 returns : tie.Need-returns
+unfolding limitOn union
 returns c =
-    let d = c .before .before .before .before .before .before in
+    let d = c .before .before .before .before .before .before .before .before .before in
     let l = d .before .before .before .before .before in
     let b = l .before .before .before in
-    let r = b .args .r in (
-      d .step .ensures .0 ∙ limited r (l .limit-facing .result) (getD (qs b) r noResource) (ts b) (l .limit-facing .ensures),
-      d .step .ensures .1,
-    )
+    let p = b .args .p in
+    let r = b .args .r in
+    rw (c .before .before .some-touched .ensures, c .before .without-resource .ensures)
+    (step-took (f b) refl (ts b) (tasksOf (d .step .last .0)) (b .pre .0 .1 .accepted) (d .step .result) (d .step .ensures .1) r (inside b) (p .changed) (p .mask) (b .pre .1)
+    (d .step .ensures .0 ∙ ap (λ (x : Power). atLeastStep r (λ i. x .0) (ts b)) (l .limit-at .ensures) ∙ sym (at-least-step (f b) refl r (ts b))))
 
 pub resource-step-spec : {M : Type 1} → statement M
 resource-step-spec =
     tie.close
     (tie.spec
-    limit-facing-requires
+    limit-at-requires
     step-requires
+    some-touched-requires
+    without-resource-requires
     same-length
     same-length-2
     same-length-3

@@ -1,60 +1,58 @@
 -- Passes until one changes nothing. The invariant: so many passes are done, and settling the list as it is now gives the rest; the
 -- measure is the room that is left, which every pass that changes something takes from.
 use borrow.Author.Needs.{needs}
+use borrow.Author.Tests.{not-false}
 use native.Mathlib.Omega.{arith}
 use mathlib.Core.Path.{_≡_, refl, sym, ap, _∙_}
-use mathlib.Core.Bool.{Bool, true, false, not}
+use mathlib.Core.Bool.{false, not}
 use mathlib.Core.List.{List}
-use Prim.Native.Nat.{ℕ, _≤_}
-use lib.IntN.{ℤ}
 use lib.ListN.{length}
-use Rattle.plan.specs.declared.Sense.{Sense}
-use Rattle.plan.specs.declared.Resource.{Resource}
-use Rattle.rules.specs.Settle.{rooms}
-use Rattle.rows.specs.View.{tasksOf, resourcesOf}
-use Rattle.passes.specs.Facing.{resourcesFacing}
-use Rattle.passes.proofs.Passes.{Settles, settles-start, settles-none, settles-last, settles-less, settles-more, rooms-most}
+use Rattle.integers.proofs.Tests.{not-out}
+use Rattle.plan.specs.declared.Task.{Task}
+use Rattle.plan.specs.declared.Call.the-variants.{Settle}
+use Rattle.rules.specs.Frame.{Frame}
+use Rattle.rules.specs.Settle.{Settled, settle, rooms}
+use Rattle.rules.specs.Calls.{settled, callOf}
+use Rattle.rules.proofs.Calls.{call-answered}
+use Rattle.rules.proofs.Bounds.{rooms-most}
+use Rattle.rows.specs.View.{tasksOf, atLeast}
+use Rattle.idle.proofs.Settles.{Settles, settles-start, settles-none, settles-last, settles-less, settles-more}
+use Rattle.passes.proofs.Ready.{stays-ready}
 use Rattle.passes.proofs.settle_rows.Statement.{statement}
 use Rattle.passes.proofs.settle_rows.Tie as tie
 
-abbrev facing : Sense → List (List ℤ) → List Resource
-facing sense q = resourcesFacing sense (resourcesOf q)
-
-not-true : (b : Bool) → not b ≡ true → b ≡ false
-not-true true h = sym h
-not-true false h = refl
-
-is-true : (b : Bool) → not b ≡ false → b ≡ true
-is-true true h = refl
-is-true false h = sym h
-
 abbrev Inv-loop : tie.InvT-loop
-Inv-loop sense q s₀ keys₀ spare₀ ss₀ mask₀ passes₀ s keys spare ss mask passes =
+Inv-loop q s₀ keys₀ spare₀ ss₀ mask₀ passes₀ s keys spare ss mask passes =
     (length s ≡ length s₀) × (length keys ≡ length keys₀) × (length spare ≡ length spare₀) × (length ss ≡ length ss₀)
-    × Settles (facing sense q) (tasksOf s₀) (tasksOf s) mask passes
+    × Settles (atLeast q) (tasksOf s₀) (tasksOf s) mask passes
 
 abbrev μ-loop : tie.MeasureT-loop
-μ-loop sense q s₀ keys₀ spare₀ ss₀ mask₀ passes₀ s keys spare ss mask passes = rooms (tasksOf s)
+μ-loop q s₀ keys₀ spare₀ ss₀ mask₀ passes₀ s keys spare ss mask passes = rooms (tasksOf s)
 
-live-places-requires : tie.Need-live-places-requires Inv-loop μ-loop
-live-places-requires c κs = search needs
+abbrev f : tie.Start Inv-loop μ-loop → Frame
+f c = atLeast (c .args .q .now)
+
+abbrev ts : tie.Start Inv-loop μ-loop → List Task
+ts c = tasksOf (c .args .s .now)
+
+-- what settling gives is what the call answers and leaves
+answers : (c : tie.Start Inv-loop μ-loop) (x : Settled) → settle (f c) (ts c) ≡ x → settled (ts c) x ≡ callOf Settle (f c) (ts c)
+answers c x e = ap (settled (ts c)) (sym e) ∙ sym (call-answered Settle (f c) (ts c) (c .pre .accepted) refl)
+
+lively-places-requires : tie.Need-lively-places-requires Inv-loop μ-loop
+lively-places-requires c κs = search needs
 
 loop-holds : tie.Need-loop-holds Inv-loop μ-loop
 loop-holds c =
     let b = c .before .before .before .before in
-    (refl, refl, refl, refl, rw (c .live-places .ensures) (settles-start (facing (b .args .sense) (b .args .q .now)) (tasksOf (b .args .s .now)) (b .pre .0)))
+    (refl, refl, refl, refl, rw (c .lively-places .ensures) (settles-start (f b) refl (ts b) (b .pre .accepted)))
 
 pass-rows-requires : tie.Need-pass-rows-requires Inv-loop μ-loop
 pass-rows-requires c κs =
     let l = c .before .before .before .before in
     let b = l .before .before .before .before .before in
-    let g = l .loop .inv .4 in (
-      g .accepted,
-      (
-        g .idle,
-        record { keys = omega (arith, b .pre .1 .keys); spare = omega (arith, b .pre .1 .spare); stretches = omega (arith, b .pre .1 .stretches) },
-      ),
-    )
+    let i = l .loop .inv in
+    (stays-ready (b .pre) (l .loop .s) (l .loop .keys) (l .loop .spare) (l .loop .ss) (i .4 .accepted) (i .0) (i .1) (i .2) (i .3), i .4 .idle)
 
 same-length : tie.Need-same-length Inv-loop μ-loop
 same-length c = omega arith
@@ -71,21 +69,17 @@ same-length-4 c = omega arith
 returns : tie.Need-returns Inv-loop μ-loop
 returns c =
     let d = c .before .before .before .before .before .before .before .before in
-    let l = c .before .before .before .before .before .before .before .before .before .before .before .before .before in
-    let b = c .before .before .before .before .before .before .before .before .before .before .before .before .before .before .before .before .before .before in
-    let g = l .loop .inv .4 in
-    let qs = facing (b .args .sense) (b .args .q .now) in
-    let ts = tasksOf (b .args .s .now) in
-    let us = tasksOf (l .loop .s) in
-    let vs = tasksOf (d .pass-rows .last .1 .1 .0) in
+    let l = d .before .before .before .before .before in
+    let b = l .before .before .before .before .before in
     let p = d .pass-rows .result in
-    sym (settles-none qs ts us (l .loop .mask) (l .loop .passes) g (p .ok) vs (d .pass-rows .ensures .0) (not-true (p .ok) (c .if1 .taken)))
+    answers b Settled.Refused
+    (settles-none (f b) refl (ts b) (tasksOf (l .loop .s)) (l .loop .mask) (l .loop .passes) (l .loop .inv .4) p (tasksOf (d .pass-rows .last .1 .0)) (d .pass-rows .ensures) (not-out (p .ok) (c .if1 .taken)))
 
 add-passes : tie.Need-add-passes Inv-loop μ-loop
 add-passes c =
     let l = c .before .before .before .before .before .before .before .before .before .before .before .before .before in
-    let b = c .before .before .before .before .before .before .before .before .before .before .before .before .before .before .before .before .before .before in
-    let m = rooms-most (facing (b .args .sense) (b .args .q .now)) (tasksOf (b .args .s .now)) (b .pre .0) in
+    let b = l .before .before .before .before .before in
+    let m = rooms-most (f b) (ts b) (b .pre .accepted) in
     omega (arith, l .loop .inv .4 .room)
 
 same-length-5 : tie.Need-same-length-5 Inv-loop μ-loop
@@ -102,50 +96,37 @@ same-length-8 c = omega arith
 
 returns-2 : tie.Need-returns-2 Inv-loop μ-loop
 returns-2 c =
-    let d = c .before .before .before .before .before .before .before .before .before .before in
-    let l = c .before .before .before .before .before .before .before .before .before .before .before .before .before .before .before in
-    let b = c .before .before .before .before .before .before .before .before .before .before .before .before .before .before .before .before .before .before .before .before in
-    let g = l .loop .inv .4 in
-    let qs = facing (b .args .sense) (b .args .q .now) in
-    let ts = tasksOf (b .args .s .now) in
-    let us = tasksOf (l .loop .s) in
-    let vs = tasksOf (d .pass-rows .last .1 .1 .0) in
+    let e = c .before .before in
+    let d = e .before .before .before .before .before .before .before .before in
+    let l = d .before .before .before .before .before in
+    let b = l .before .before .before .before .before in
     let p = d .pass-rows .result in
-    let ok = is-true (p .ok) (c .before .before .if1 .left) in
-    sym (settles-last qs ts us (l .loop .mask) (l .loop .passes) g (p .ok) vs (d .pass-rows .ensures .0) ok (p .changed) (p .mask) (d .pass-rows .ensures .1 ok) (not-true (p .changed) (c .if2 .taken)))
+    let us = tasksOf (d .pass-rows .last .1 .0) in
+    answers b (Settled.After _ us)
+    (settles-last (f b) refl (ts b) (tasksOf (l .loop .s)) (l .loop .mask) (l .loop .passes) (l .loop .inv .4) p us (d .pass-rows .ensures) (not-false (p .ok) (e .if1 .left)) (not-out (p .changed) (c .if2 .taken)))
 
 loop-less : tie.Need-loop-less Inv-loop μ-loop
 loop-less c =
-    let d = c .before .before .before .before .before .before .before .before .before .before in
-    let l = c .before .before .before .before .before .before .before .before .before .before .before .before .before .before .before in
-    let b = c .before .before .before .before .before .before .before .before .before .before .before .before .before .before .before .before .before .before .before .before in
-    let g = l .loop .inv .4 in
-    let qs = facing (b .args .sense) (b .args .q .now) in
-    let ts = tasksOf (b .args .s .now) in
-    let us = tasksOf (l .loop .s) in
-    let vs = tasksOf (d .pass-rows .last .1 .1 .0) in
+    let e = c .before .before in
+    let d = e .before .before .before .before .before .before .before .before in
+    let l = d .before .before .before .before .before in
+    let b = l .before .before .before .before .before in
     let p = d .pass-rows .result in
-    let ok = is-true (p .ok) (c .before .before .if1 .left) in
-    settles-less qs ts us (l .loop .mask) (l .loop .passes) g (p .ok) vs (d .pass-rows .ensures .0) ok (p .changed) (p .mask) (d .pass-rows .ensures .1 ok) (is-true (p .changed) (c .if2 .left))
+    settles-less (f b) refl (ts b) (tasksOf (l .loop .s)) (l .loop .mask) (l .loop .passes) (l .loop .inv .4) p (tasksOf (d .pass-rows .last .1 .0)) (d .pass-rows .ensures) (not-false (p .ok) (e .if1 .left)) (not-false (p .changed) (c .if2 .left))
 
 loop-again : tie.Need-loop-again Inv-loop μ-loop
-loop-again c = (
-  omega arith,
-  omega arith,
-  omega arith,
-  omega arith,
-  let d = c .before .before .before .before .before .before .before .before .before .before in
-      let l = c .before .before .before .before .before .before .before .before .before .before .before .before .before .before .before in
-      let b = c .before .before .before .before .before .before .before .before .before .before .before .before .before .before .before .before .before .before .before .before in
-      let g = l .loop .inv .4 in
-      let qs = facing (b .args .sense) (b .args .q .now) in
-      let ts = tasksOf (b .args .s .now) in
-      let us = tasksOf (l .loop .s) in
-      let vs = tasksOf (d .pass-rows .last .1 .1 .0) in
-      let p = d .pass-rows .result in
-      let ok = is-true (p .ok) (c .before .before .if1 .left) in
-      settles-more qs ts us (l .loop .mask) (l .loop .passes) g (p .ok) vs (d .pass-rows .ensures .0) ok (p .changed) (p .mask) (d .pass-rows .ensures .1 ok) (is-true (p .changed) (c .if2 .left)),
-)
+loop-again c =
+    let e = c .before .before in
+    let d = e .before .before .before .before .before .before .before .before in
+    let l = d .before .before .before .before .before in
+    let b = l .before .before .before .before .before in
+    let p = d .pass-rows .result in (
+      omega arith,
+      omega arith,
+      omega arith,
+      omega arith,
+      settles-more (f b) refl (ts b) (tasksOf (l .loop .s)) (l .loop .mask) (l .loop .passes) (l .loop .inv .4) p (tasksOf (d .pass-rows .last .1 .0)) (d .pass-rows .ensures) (not-false (p .ok) (e .if1 .left)) (not-false (p .changed) (c .if2 .left)),
+    )
 
 pub settle-rows-spec : {M : Type 1} → statement M
 settle-rows-spec =
@@ -153,7 +134,7 @@ settle-rows-spec =
     (tie.spec
     Inv-loop
     μ-loop
-    live-places-requires
+    lively-places-requires
     loop-holds
     pass-rows-requires
     same-length

@@ -1,59 +1,78 @@
--- Each resource's step in list order. The invariant: what is left to do on the list as it is now gives the answer; while a plan is left,
--- the list is one that the steps may leave, the mask is right, and what changed is noted.
-use borrow.Author.Needs.{needs}
+-- Each resource's step in list order. The invariant: a plan is left, what is left to do on the list as it is now gives the answer, the list is
+-- one that the steps may leave, the mask is right, and what changed is noted. A step whose bit is clear would change nothing.
 use native.Mathlib.Omega.{arith}
-use mathlib.Core.Path.{_≡_, refl, sym, ap, _∙_, subst}
-use mathlib.Core.Bool.{Bool, true, false, not}
+use mathlib.Core.Path.{_≡_, refl, sym, ap, _∙_}
+use mathlib.Core.Bool.{true}
 use mathlib.Core.List.{List}
-use Prim.Native.Nat.{ℕ, _+_, _-_, _≤_, _<_}
-use lib.IntN.{ℤ}
-use lib.ListN.{length, drop, getD}
-use Rattle.integers.proofs.Tests.{clash}
-use Rattle.plan.specs.declared.Sense.{Sense}
-use Rattle.plan.specs.declared.Resource.{Resource}
-use Rattle.rows.specs.View.{tasksOf, resourcesOf}
+use mathlib.Core.Logic.{⊎-elim}
+use Prim.Native.Nat.{_+_, _-_, _≤_, _<_}
+use lib.ListN.{length}
+use borrow.Author.Tests.{not-false}
+use Rattle.integers.proofs.Tests.{not-out}
+use Rattle.plan.specs.declared.Task.{Task}
+use Rattle.rules.specs.Frame.{Frame, resourceCount}
+use Rattle.rules.specs.Step.{resourceStep}
+use Rattle.rows.specs.View.{tasksOf, atLeast}
 use Rattle.rows.proofs.View.{length-resources}
-use Rattle.passes.specs.Facing.{resourcesFacing}
-use Rattle.passes.proofs.Facing.{length-facing}
-use Rattle.passes.proofs.Passing.{Passing, passing-start, passing-more, passing-none, passing-end}
+use Rattle.idle.specs.declared.Passed.{Passed}
+use Rattle.idle.specs.Mask.{Took}
+use Rattle.idle.proofs.Mask.{rest-took}
+use Rattle.idle.proofs.Passing.{Passing, passing-start, passing-more, passing-none, passing-end}
+use Rattle.passes.specs.Ready.{Ready}
+use Rattle.passes.proofs.Ready.{place-inside, place-small, stays-ready}
 use Rattle.passes.proofs.steps_rows.Statement.{statement}
 use Rattle.passes.proofs.steps_rows.Tie as tie
 
-abbrev facing : Sense → List (List ℤ) → List Resource
-facing sense q = resourcesFacing sense (resourcesOf q)
-
-same-count : (sense : Sense) (q : List (List ℤ)) → length (facing sense q) ≡ length q
-same-count sense q = length-facing sense (resourcesOf q) ∙ length-resources q
-
-not-true : (b : Bool) → not b ≡ true → b ≡ false
-not-true true h = sym h
-not-true false h = refl
-
-is-true : (b : Bool) → not b ≡ false → b ≡ true
-is-true true h = refl
-is-true false h = sym h
-
 abbrev Inv-loop : tie.InvT-loop
-Inv-loop sense q s₀ keys₀ spare₀ ss₀ p₀ r₀ s keys spare ss p r =
+Inv-loop q s₀ keys₀ spare₀ ss₀ p₀ r₀ s keys spare ss p r =
     (r ≤ length q) × (length s ≡ length s₀) × (length keys ≡ length keys₀) × (length spare ≡ length spare₀) × (length ss ≡ length ss₀)
-    × Passing (facing sense q) (tasksOf s₀) (p₀ .changed) r (p .ok) (p .changed) (p .mask) (tasksOf s)
+    × (p .ok ≡ true) × Passing (atLeast q) (tasksOf s₀) (p₀ .changed) r p (tasksOf s)
 
 abbrev μ-loop : tie.MeasureT-loop
-μ-loop sense q s₀ keys₀ spare₀ ss₀ p₀ r₀ s keys spare ss p r = length q - r
+μ-loop q s₀ keys₀ spare₀ ss₀ p₀ r₀ s keys spare ss p r = length q - r
+
+abbrev f : tie.Start Inv-loop μ-loop → Frame
+f c = atLeast (c .args .q .now)
+
+abbrev ts : tie.Start Inv-loop μ-loop → List Task
+ts c = tasksOf (c .args .s .now)
+
+-- a turn of the loop
+module _ (i : tie.In-loop Inv-loop μ-loop) where
+  abbrev l : tie.At-loop Inv-loop μ-loop
+  l = i .before
+
+  abbrev b : tie.Start Inv-loop μ-loop
+  b = l .before .before .before
+
+  here : l .loop .r < length (b .args .q .now)
+  here = omega (arith, i .loop-test)
+
+  inside : l .loop .r < resourceCount (f b)
+  inside = place-inside (b .args .q .now) (l .loop .r) here
+
+  ready : Ready (b .args .q .now) (l .loop .s) (l .loop .keys) (l .loop .spare) (l .loop .ss)
+  ready =
+      let v = l .loop .inv in
+      stays-ready (b .pre .0 .1) (l .loop .s) (l .loop .keys) (l .loop .spare) (l .loop .ss) (v .6 .keeps (v .5) .accepted) (v .1) (v .2) (v .3) (v .4)
+
+  -- past the step of its resource, taken or left out
+  past : (o : Passed) (us : List Task) → Took (resourceStep (f b) (l .loop .r)) (f b) (l .loop .p .changed) (tasksOf (l .loop .s)) o us → Passing (f b) (ts b) (b .args .first .changed) (l .loop .r + 1) o us
+  past o us t =
+      passing-more (f b) (ts b) (b .pre .0 .1 .accepted) (b .args .first .changed) (l .loop .r) (l .loop .p) (tasksOf (l .loop .s)) (l .loop .inv .6) inside (l .loop .inv .5) o us t
 
 loop-holds : tie.Need-loop-holds Inv-loop μ-loop
 loop-holds c =
-    let b = c .before .before in
-    let a = b .args in (
-      omega arith,
-      refl,
-      refl,
-      refl,
-      refl,
-      subst (λ (x : Bool). Passing (facing (a .sense) (a .q .now)) (tasksOf (a .s .now)) (a .first .changed) 0 x (a .first .changed) (a .first .mask) (tasksOf (a .s .now)))
-          (sym (b .pre .0 .0))
-          (passing-start (facing (a .sense) (a .q .now)) (tasksOf (a .s .now)) (b .pre .0 .1) (a .first .changed) (a .first .mask) (b .pre .1 .0)),
-    )
+    let a = c .before .before in
+    (omega arith, refl, refl, refl, refl, a .pre .0 .0, passing-start (f a) (ts a) (a .pre .0 .1 .accepted) (a .args .first) (a .pre .0 .0) (a .pre .1))
+
+has-resource-requires : tie.Need-has-resource-requires Inv-loop μ-loop
+has-resource-requires c κs = place-small (ready c) (l c .loop .r) (here c)
+
+resource-step-requires : tie.Need-resource-step-requires Inv-loop μ-loop
+resource-step-requires c κs =
+    let i = c .before .before .before .before .before .before in
+    ((here i, ready i), l i .loop .inv .6 .noted (l i .loop .inv .5) .idle)
 
 same-length : tie.Need-same-length Inv-loop μ-loop
 same-length c = omega arith
@@ -69,52 +88,44 @@ same-length-4 c = omega arith
 
 returns : tie.Need-returns Inv-loop μ-loop
 returns c =
-    let l = c .before .before .before in
-    let b = l .before .before .before in
-    let a = b .args in
-    let no : l .loop .p .ok ≡ false = not-true (l .loop .p .ok) (c .if1 .taken) in (
-      passing-none (facing (a .sense) (a .q .now)) (tasksOf (a .s .now)) (b .pre .0 .1) (a .first .changed) (l .loop .r) (l .loop .p .ok) (l .loop .p .changed) (l .loop .p .mask) (tasksOf (l .loop .s)) no (l .loop .inv .5),
-      λ h. clash (l .loop .p .ok) h no,
-    )
-
-step-due-requires : tie.Need-step-due-requires Inv-loop μ-loop
-step-due-requires c κs =
-    let l = c .before .before .before .before .before .before .before in
-    let b = l .before .before .before in
-    let ok = is-true (l .loop .p .ok) (c .before .before .before .before .if1 .left) in
-    let g = l .loop .inv .5 .going ok in (
-      (omega arith, ok, g .keeps .accepted),
-      (
-        g .noted .idle,
-        record { keys = omega (arith, b .pre .1 .1 .keys); spare = omega (arith, b .pre .1 .1 .spare); stretches = omega (arith, b .pre .1 .1 .stretches) },
-      ),
-    )
+    let s = c .before .before .before .before .before .before .before .before in
+    let i = s .before .before .before .before .before .before .before in
+    passing-none (f (b i)) (ts (b i)) (b i .pre .0 .1 .accepted) (b i .args .first .changed) (l i .loop .r + 1) (s .resource-step .result) (tasksOf (s .resource-step .last .1 .0))
+    (past i (s .resource-step .result) (tasksOf (s .resource-step .last .1 .0)) (s .resource-step .ensures))
+    (not-out (s .resource-step .result .ok) (c .if2 .taken))
 
 add-r : tie.Need-add-r Inv-loop μ-loop
-add-r c = omega arith
+add-r c = omega (arith, here (c .before .before))
 
 loop-less : tie.Need-loop-less Inv-loop μ-loop
-loop-less c = omega arith
+loop-less c = omega (arith, here (c .before .before))
 
 loop-again : tie.Need-loop-again Inv-loop μ-loop
 loop-again c =
-    let d = c .before .before .before .before .before .before in
-    let l = c .before .before .before .before .before .before .before .before .before .before .before .before .before .before in
-    let b = l .before .before .before in
-    let a = b .args in
-    let qs = facing (a .sense) (a .q .now) in
-    let p = l .loop .p in
-    let ok = is-true (p .ok) (c .before .before .before .before .before .before .before .before .before .before .before .if1 .left) in
-    let t = c .before .before .before .before .before .before .before .before .before .before .before .before .before .loop-test in
-    let inside : l .loop .r < length qs = omega (arith, same-count (a .sense) (a .q .now), t) in (
-      omega (arith, t),
-      omega arith,
-      omega arith,
-      omega arith,
-      omega arith,
-      passing-more qs (tasksOf (a .s .now)) (b .pre .0 .1) (a .first .changed) (l .loop .r) (p .ok) (p .changed) (p .mask) (tasksOf (l .loop .s)) inside ok (l .loop .inv .5)
-          (d .step-due .result .ok) (d .step-due .result .changed) (d .step-due .result .mask) (tasksOf (d .step-due .last .1 .1 .0)) (d .step-due .ensures .0) (d .step-due .ensures .1),
-    )
+    let i = c .before .before in
+    let v = l i .loop .inv in
+    let le : l i .loop .r + 1 ≤ length (b i .args .q .now) = omega (arith, here i) in
+    ⊎-elim
+    (λ w.
+    let o = w .5 in (
+      le,
+      ap length (w .14) ∙ o .kept .1 .0 ∙ v .1,
+      ap length (w .15) ∙ o .kept .1 .1 .1 .1 .0 ∙ v .2,
+      ap length (w .16) ∙ o .kept .1 .1 .1 .1 .1 .0 ∙ v .3,
+      ap length (w .17) ∙ o .kept .1 .1 .1 .1 .1 .1 .0 ∙ v .4,
+      ap (λ (p : Passed). p .ok) (w .18) ∙ not-false (o .result .ok) (w .13 .left),
+      rw (w .14, w .18) (past i (o .result) (tasksOf (o .last .1 .0)) (o .ensures)),
+    ))
+    (λ w. (
+      le,
+      ap length (w .1) ∙ v .1,
+      ap length (w .2) ∙ v .2,
+      ap length (w .3) ∙ v .3,
+      ap length (w .4) ∙ v .4,
+      ap (λ (p : Passed). p .ok) (w .5) ∙ v .5,
+      rw (w .1, w .5) (past i (l i .loop .p) (tasksOf (l i .loop .s)) (rest-took (f (b i)) (tasksOf (l i .loop .s)) (l i .loop .p) (v .5) (v .6 .noted (v .5) .idle) (l i .loop .r) (inside i) (sym (c .before .has-resource .ensures) ∙ w .0 .left))),
+    ))
+    (c .if1 .came)
 
 same-length-5 : tie.Need-same-length-5 Inv-loop μ-loop
 same-length-5 c = omega arith
@@ -130,13 +141,10 @@ same-length-8 c = omega arith
 
 returns-2 : tie.Need-returns-2 Inv-loop μ-loop
 returns-2 c =
-    let l = c .before in
-    let b = l .before .before .before in
-    let a = b .args in (
-      passing-end (facing (a .sense) (a .q .now)) (tasksOf (a .s .now)) (b .pre .0 .1) (a .first .changed) (l .loop .r) (l .loop .p .ok) (l .loop .p .changed) (l .loop .p .mask) (tasksOf (l .loop .s))
-          (omega (arith, same-count (a .sense) (a .q .now))) (l .loop .inv .5),
-      λ h. l .loop .inv .5 .going h .noted,
-    )
+    let m = c .before in
+    let a = m .before .before .before in
+    passing-end (f a) (ts a) (a .pre .0 .1 .accepted) (a .args .first .changed) (m .loop .r) (m .loop .p) (tasksOf (m .loop .s)) (m .loop .inv .6)
+    (omega (arith, length-resources (a .args .q .now)))
 
 pub steps-rows-spec : {M : Type 1} → statement M
 steps-rows-spec =
@@ -145,12 +153,13 @@ steps-rows-spec =
     Inv-loop
     μ-loop
     loop-holds
+    has-resource-requires
+    resource-step-requires
     same-length
     same-length-2
     same-length-3
     same-length-4
     returns
-    step-due-requires
     add-r
     loop-less
     loop-again

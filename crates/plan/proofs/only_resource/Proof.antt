@@ -1,9 +1,8 @@
 -- The set is that of the one place.
 use borrow.Author.Needs.{needs}
 use native.Mathlib.Omega.{arith}
-use mathlib.Core.Path.{_≡_, ap}
+use mathlib.Core.Path.{ap}
 use lib.Dec.{eqb}
-use Prim.Native.Nat.{ℕ, _<_, _^_, _*_, _%_}
 use Rattle.plan.specs.Sets.{only}
 use Rattle.plan.proofs.Sets.{bit-small}
 use Rattle.plan.proofs.only_resource.Statement.{statement}

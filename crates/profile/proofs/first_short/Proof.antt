@@ -36,7 +36,8 @@ returns c =
     let a = l .before .args in
     let t = c .before .before .before .stretch-at in
     let e : ltZ (t .result .tight .0) (pos 0) ≡ true = sym (c .before .below .ensures) ∙ c .if1 .taken in
-    first-in (stretchesOf (a .s .now)) (a .n) (l .loop .k) (omega (arith, length-stretches (a .s .now))) (omega arith) (l .loop .inv .1) (λ h. rw (← (t .ensures)) (omega (z, e)))
+    first-in (stretchesOf (a .s .now)) (a .n) (l .loop .k) (omega (arith, length-stretches (a .s .now))) (omega arith) (l .loop .inv .1)
+    (λ h. rw (← (t .ensures)) (omega (z, e)))
 
 add-k : tie.Need-add-k Inv-loop μ-loop
 add-k c = omega arith
@@ -55,7 +56,8 @@ returns-2 : tie.Need-returns-2 Inv-loop μ-loop
 returns-2 c =
     let l = c .before in
     let a = l .before .args in
-    first-in (stretchesOf (a .s .now)) (a .n) (a .n) (omega (arith, length-stretches (a .s .now))) (omega arith) (λ q h. l .loop .inv .1 q (omega arith)) (λ h. absurd (omega arith))
+    first-in (stretchesOf (a .s .now)) (a .n) (a .n) (omega (arith, length-stretches (a .s .now))) (omega arith)
+    (λ q h. l .loop .inv .1 q (omega arith)) (λ h. absurd (omega arith))
 
 pub first-short-spec : {M : Type 1} → statement M
 first-short-spec =

@@ -1,8 +1,8 @@
 -- `profile::profile`: events, stretches and shortfall, joined by one law.
 use native.Mathlib.Omega.{arith}
 use Rattle.integers.proofs.Z.{z, ~z}
+use lib.ListN.{length}
 use Rattle.rows.specs.View.{tasksOf}
-use Rattle.rows.proofs.View.{length-tasks}
 use Rattle.stretches.specs.View.{stretchesOf}
 use Rattle.stretches.proofs.View.{length-stretches}
 use Rattle.profile.proofs.Promise.{profiled}
@@ -16,17 +16,16 @@ collect-requires c κs = search needs
 negated-requires : tie.Need-negated-requires
 negated-requires c κs =
     let a = c .before .before .before .before .before .before .before .before .before in
-    omega (z, ~z (a .args .limit .0), a .pre .0 .least, a .pre .0 .most)
+    omega (z, ~z (a .args .limit .0), a .pre .0 .limited)
 
 sweep-events-requires : tie.Need-sweep-events-requires
 sweep-events-requires c κs =
     let q = c .before .before .before .before .before .before .before .collect in
     let a = c .before .before .before .before .before .before .before .before .before .before .before in
-    let l = a .pre .0 in
     let e = q .ensures .1 .1 in
-    let x = a .args .limit .0 in (
-      (omega (arith, e, q .kept .1 .1 .0, l), omega (arith, e, l), omega (arith, e, l), omega (arith, e, l)),
-      rw (c .before .negated .ensures) (omega (z, ~z x, l .least, l .most), omega (z, ~z x, l .least, l .most)),
+    let l = a .pre .1 .0 in (
+      (omega (arith, e, q .kept .1 .1 .0, l), omega (arith, e, a .pre .0), omega (arith, e, l), omega (arith, e, l)),
+      rw (c .before .negated .ensures) (omega (z, ~z (a .args .limit .0), a .pre .0 .limited)),
     )
 
 first-short-requires : tie.Need-first-short-requires
@@ -49,12 +48,10 @@ returns c =
     let g = c .before .before .before .before .before .before .before .before .before .negated in
     let q = c .before .before .before .before .before .before .before .before .before .before .before .before .before .before .before .collect in
     let a = c .before .before .before .before .before .before .before .before .before .before .before .before .before .before .before .before .before .before .before in
-    let l = a .pre .0 in
-    let x = a .args .limit .0 in
     let ts = tasksOf (a .args .s .now) in
     let ss = stretchesOf (w .last .1 .1 .1 .1 .1 .0) in (
       omega (arith, w .ensures .few, length-stretches (w .last .1 .1 .1 .1 .1 .0)),
-      profiled (a .args .r) x ts _ (q .result .common) ss (w .result) (c .first-short .result) (a .pre .1) (omega (arith, l .tasks-few, length-tasks (a .args .s .now))) (l .least) (l .most)
+      profiled (a .args .r) (a .args .limit .0) ts _ (q .result .extremes) ss (w .result) (c .first-short .result) (a .pre .1 .1)
           (q .ensures .0 .front) (q .ensures .1 .0) (rw (g .ensures) at (w .ensures)) (c .first-short .ensures),
     )
 

@@ -13,20 +13,20 @@ use Rattle.profile.proofs.sweep.Statement.{statement}
 use Rattle.profile.proofs.sweep.Tie as tie
 
 abbrev Inv-loop : tie.InvT-loop
-Inv-loop keys c s₀ v₀ from₀ n₀ j₀ s v from n j =
+Inv-loop keys e s₀ v₀ from₀ n₀ j₀ s v from n j =
     (j ≤ length keys) ×
     (n ≤ j) ×
     (length s ≡ length s₀) ×
     Small j v ×
-    (take n (stretchesOf s) ++ swept c (from .0) v (drop j keys) ≡ swept c (from₀ .0) v₀ keys)
+    (take n (stretchesOf s) ++ swept e (from .0) v (drop j keys) ≡ swept e (from₀ .0) v₀ keys)
 
 abbrev μ-loop : tie.MeasureT-loop
-μ-loop keys c s₀ v₀ from₀ n₀ j₀ s v from n j = length keys - j
+μ-loop keys e s₀ v₀ from₀ n₀ j₀ s v from n j = length keys - j
 
 loop-holds : tie.Need-loop-holds Inv-loop μ-loop
 loop-holds c =
     let a = c .before .before in
-    (omega arith, omega arith, refl, small-start _ (a .pre .2) (a .pre .3) refl, refl)
+    (omega arith, omega arith, refl, small-start _ (a .pre .1) refl, refl)
 
 mul-k : tie.Need-mul-k Inv-loop μ-loop
 mul-k c = omega arith
@@ -65,11 +65,11 @@ loop-again c =
     let j = l .loop .j in
     let h : j < length ks = c .before .before .before .before .before .before .before .loop-test .taken in (
       omega arith,
-      omega (arith, p .ensures .many, worthy-few (a .c) (t .result), l .loop .inv .1),
+      omega (arith, p .ensures .many, worthy-few (a .e) (t .result), l .loop .inv .1),
       omega (arith, p .kept, l .loop .inv .2),
       rw (c .changed .ensures) (small-more j (l .loop .v) (getD ks j 0) (l .loop .inv .3)),
       rw (c .changed .ensures, d .ensures)
-          (swept-more (a .c) ks j h _ _ _ _ (l .loop .from .0) (l .loop .v) (rw (t .ensures, d .ensures) at (p .ensures)) ∙ l .loop .inv .4),
+          (swept-more (a .e) ks j h _ _ _ _ (l .loop .from .0) (l .loop .v) (rw (t .ensures, d .ensures) at (p .ensures)) ∙ l .loop .inv .4),
     )
 
 stretch-in-requires-2 : tie.Need-stretch-in-requires-2 Inv-loop μ-loop
@@ -88,9 +88,9 @@ returns c =
     let l = c .before .before .before .before .before in
     let a = l .before .before .before .args in
     let ks = a .keys .now in
-    let m : p .result ≤ length (p .last .0) = omega (arith, p .ensures .many, worthy-few (a .c) (t .result)) in (
+    let m : p .result ≤ length (p .last .0) = omega (arith, p .ensures .many, worthy-few (a .e) (t .result)) in (
       laid-all _ _ (p .result) _ (omega (arith, m, length-stretches (p .last .0)))
-          (swept-end (a .c) ks (l .loop .j) (omega arith) _ _ _ _ (l .loop .from .0) (l .loop .v) (rw (t .ensures) at (p .ensures)) ∙ l .loop .inv .4),
+          (swept-end (a .e) ks (l .loop .j) (omega arith) _ _ _ _ (l .loop .from .0) (l .loop .v) (rw (t .ensures) at (p .ensures)) ∙ l .loop .inv .4),
       m,
     )
 

@@ -35,7 +35,7 @@ sweep-requires c κs =
     let ks = a .args .keys .now in
     let f = front ks (p .last .0) n (a .pre .0 .0) (p .kept .0) in
     let l : length (p .last .0) ≡ n = omega (arith, p .kept .0, length-take n ks, a .pre .0 .0) in
-    rw f (omega (arith, l, a .pre .0), omega (arith, l, a .pre .0), a .pre .1 .0, a .pre .1 .1)
+    rw f ((omega (arith, l, a .pre .0), omega (arith, l, a .pre .0)), a .pre .1)
 
 same-length : tie.Need-same-length
 same-length c = search needs

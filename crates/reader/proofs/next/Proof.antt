@@ -1,7 +1,6 @@
 -- `next` meets its contract: a walk of its MIR, by hand. The reader is taken apart, and the cursor by value is asked on the same bytes.
 -- The reader is Copy: what it owns is had twice, one copy is kept whole for the exit, and of the other what the bytes own goes to the cursor's function, beside the token, which comes back.
 use mathlib.Core.Path.{_≡_, refl}
-use Prim.Native.Nat.{_<_, _^_}
 use mathlib.Core.List.{[], _∷_}
 use lib.Dec.{T as Holds}
 use lib.ListN.{length}

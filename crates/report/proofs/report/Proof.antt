@@ -4,110 +4,93 @@ use mathlib.Core.Path.{_≡_, sym, ap, _∙_, subst}
 use mathlib.Core.List.{List}
 use Prim.Native.Nat.{ℕ, _≤_}
 use lib.IntN.{ℤ}
-use lib.ListN.{take}
+use lib.ListN.{length}
 use lib.Seq.{length-take-le}
 use Rattle.plan.specs.declared.Sense.{Sense}
-use Rattle.plan.specs.declared.Resource.{Resource}
-use Rattle.plan.specs.declared.Task.{Task}
-use Rattle.rules.specs.Calls.{check, settleCall, mostResources, mostTasks}
-use Rattle.rules.specs.Calls.Checked.{Accepted}
-use Rattle.rows.specs.View.{tasksOf, resourcesOf}
-use Rattle.rows.proofs.View.{tasks-take, resources-take}
-use Rattle.rows.proofs.Fits.{accepts}
 use Rattle.format.specs.declared.ReadAnswer.{ReadAnswer}
-use Rattle.format.specs.Reading.{Read, readPlan}
-use Rattle.calls.proofs.Files.{Got, got, got-none, got-accepted}
+use Rattle.format.specs.Reading.{readPlan, answerPlan, AnswerWithin}
+use Rattle.format.proofs.Files.{whole}
+use Rattle.text.specs.Text.{mostText}
 use Rattle.text.proofs.Texts.{put-wider}
-use Rattle.report.specs.Report.{resultText, readText, reportOf, mostText}
-use Rattle.report.proofs.Told.{told}
+use Rattle.report.specs.Report.{readText, reportOf}
+use Rattle.report.proofs.Told.{told, lent-most}
 use borrow.Author.Needs.{needs}
 use Rattle.report.proofs.report.Statement.{statement}
 use Rattle.report.proofs.report.Tie as tie
 
 -- what was read
-module _ (c : tie.After-read-plan) where
+module _ (c : tie.After-read-lent) where
   abbrev start : tie.Start
   start = c .before .before .before .before .before
 
-  abbrev read : Read
-  read = readPlan mostResources mostTasks (start .args .file .now)
-
   abbrev resources : List (List ℤ)
-  resources = c .read-plan .last .1 .1 .1 .0
+  resources = c .read-lent .last .1 .1 .1 .0
 
   abbrev tasks : List (List ℤ)
-  tasks = c .read-plan .last .1 .1 .1 .1 .0
+  tasks = c .read-lent .last .1 .1 .1 .1 .0
 
-  module _ (sense : Sense) (n m : ℕ) (e : c .read-plan .result ≡ ReadAnswer.Plan sense n m) where
-    abbrev plan : Got read sense n m
-    plan = got read sense n m (sym (c .read-plan .ensures .0) ∙ e)
+  read-as : (a : ReadAnswer) → c .read-lent .result ≡ a → answerPlan a resources tasks ≡ readPlan (start .args .file .now)
+  read-as a e =
+      ap (λ (x : ReadAnswer). answerPlan x resources tasks) (sym e) ∙ c .read-lent .ensures .0 ∙ lent-most (start .args .file .now)
 
-    ok : check (plan .resources) (plan .tasks) ≡ Accepted
-    ok = got-accepted mostResources mostTasks (start .args .file .now) (plan .is)
+-- a plan
+module _ (c : tie.After-sense) where
+  abbrev read : tie.After-read-lent
+  read = c .before .before .before .before
 
-    few-resources : n ≤ 16
-    few-resources = omega (arith, plan .resources-count, accepts (plan .resources) (plan .tasks) ok .most)
+  abbrev sense : Sense
+  sense = c .sense .given .0 .0
 
-    few-tasks : m ≤ 256
-    few-tasks = omega (arith, plan .tasks-count, accepts (plan .resources) (plan .tasks) ok .few)
+  abbrev n : ℕ
+  n = c .sense .given .0 .1 .0
 
-    resources-are : resourcesOf (take n resources) ≡ plan .resources
-    resources-are =
-        resources-take n resources
-        ∙ subst (λ (k : ℕ). take k (resourcesOf resources) ≡ plan .resources) (plan .resources-count) (c .read-plan .ensures .1 .stands (plan .is) .0)
+  abbrev m : ℕ
+  m = c .sense .given .0 .1 .1 .0
 
-    tasks-are : tasksOf (take m tasks) ≡ plan .tasks
-    tasks-are =
-        tasks-take m tasks
-        ∙ subst (λ (k : ℕ). take k (tasksOf tasks) ≡ plan .tasks) (plan .tasks-count) (c .read-plan .ensures .1 .stands (plan .is) .1)
+  within : (n ≤ length (resources read)) × (m ≤ length (tasks read))
+  within = subst (λ (a : ReadAnswer). AnswerWithin a (length (resources read)) (length (tasks read))) (c .sense .given .1) (read .read-lent .ensures .1)
 
-slice-aggregate-read-plan : tie.Need-slice-aggregate-read-plan
-slice-aggregate-read-plan c = search needs
+  plan-is : answerPlan (ReadAnswer.Plan sense n m) (resources read) (tasks read) ≡ readPlan (start read .args .file .now)
+  plan-is = read-as read (ReadAnswer.Plan sense n m) (c .sense .given .1)
 
-slice-aggregate-read-plan-2 : tie.Need-slice-aggregate-read-plan-2
-slice-aggregate-read-plan-2 c = search needs
+slice-aggregate-read-lent : tie.Need-slice-aggregate-read-lent
+slice-aggregate-read-lent c = search needs
 
-read-plan-requires : tie.Need-read-plan-requires
-read-plan-requires c κs = (omega arith, λ n few room. omega (arith, few))
+slice-aggregate-read-lent-2 : tie.Need-slice-aggregate-read-lent-2
+slice-aggregate-read-lent-2 c = search needs
 
-enum-known-answer : tie.Need-enum-known-answer
-enum-known-answer c = search needs
+read-lent-requires : tie.Need-read-lent-requires
+read-lent-requires c κs = search needs
+
+enum-known-f : tie.Need-enum-known-f
+enum-known-f c = search needs
 
 put-refused-requires : tie.Need-put-refused-requires
 put-refused-requires c κs = search needs
 
-enum-known-answer-2 : tie.Need-enum-known-answer-2
-enum-known-answer-2 c = search needs
+enum-known-sense : tie.Need-enum-known-sense
+enum-known-sense c = search needs
 
-array-share-prefix-resources : tie.Need-array-share-prefix-resources
-array-share-prefix-resources c =
-    let a = c .before .answer2 .given in
-    let k = few-resources (c .before .before .before .before .before) (a .0 .0) (a .0 .1 .0) (a .0 .1 .1 .0) (a .1) in
-    omega arith
+array-borrow-prefix-resources : tie.Need-array-borrow-prefix-resources
+array-borrow-prefix-resources c = within (c .before) .0
 
 slice-aggregate-report-plan : tie.Need-slice-aggregate-report-plan
 slice-aggregate-report-plan c =
-    let a = c .before .before .answer2 .given in
-    let k = few-resources (c .before .before .before .before .before .before) (a .0 .0) (a .0 .1 .0) (a .0 .1 .1 .0) (a .1) in
-    sym (length-take-le (a .0 .1 .0) (resources (c .before .before .before .before .before .before)) (omega arith))
+    let p = c .before .before in
+    sym (length-take-le (n p) (resources (read p)) (within p .0))
 
 array-borrow-prefix-tasks : tie.Need-array-borrow-prefix-tasks
-array-borrow-prefix-tasks c =
-    let a = c .before .before .answer2 .given in
-    let k = few-tasks (c .before .before .before .before .before .before) (a .0 .0) (a .0 .1 .0) (a .0 .1 .1 .0) (a .1) in
-    omega arith
+array-borrow-prefix-tasks c = within (c .before .before) .1
 
 slice-aggregate-report-plan-2 : tie.Need-slice-aggregate-report-plan-2
 slice-aggregate-report-plan-2 c =
-    let a = c .before .before .before .answer2 .given in
-    let k = few-tasks (c .before .before .before .before .before .before .before) (a .0 .0) (a .0 .1 .0) (a .0 .1 .1 .0) (a .1) in
-    sym (length-take-le (a .0 .1 .1 .0) (tasks (c .before .before .before .before .before .before .before)) (omega arith))
+    let p = c .before .before .before in
+    sym (length-take-le (m p) (tasks (read p)) (within p .1))
 
 report-plan-requires : tie.Need-report-plan-requires
 report-plan-requires c κs =
-    let a = c .before .before .before .before .answer2 .given in
-    let d = c .before .before .before .before .before .before .before .before in
-    (rw (resources-are d (a .0 .0) (a .0 .1 .0) (a .0 .1 .1 .0) (a .1), tasks-are d (a .0 .0) (a .0 .1 .0) (a .0 .1 .1 .0) (a .1)) (ok d (a .0 .0) (a .0 .1 .0) (a .0 .1 .1 .0) (a .1)), start d .pre)
+    let p = c .before .before .before .before in
+    (whole (sym (plan-is p)) .accepted, start (read p) .pre)
 
 same-length : tie.Need-same-length
 same-length c = search needs
@@ -116,12 +99,11 @@ returns : tie.Need-returns
 unfolding reportOf
 returns c =
     let refused = c .before .before in
-    let d = refused .before .before .before .before .before .before .before in
+    let e = refused .before .before .before in
+    let d = e .before .before .before .before in
     let b = start d in
-    let f = refused .before .before .before .answer .given in
-    let x = told (b .args .out .now) (reportOf (b .args .file .now)) (put-wider {k = mostText} (omega arith) (refused .put-refused .ensures)) (b .pre)
-    (ap readText (sym (got-none (read d) (f .0 .0) (sym (d .read-plan .ensures .0) ∙ f .1)))) in
-    (x .stands, (x .count, x .within))
+    told (b .args .out .now) (reportOf (b .args .file .now)) (put-wider {k = mostText} (omega arith) (refused .put-refused .ensures)) (b .pre)
+    (ap readText (read-as d (ReadAnswer.Refused (e .f .given .0 .0)) (e .f .given .1)))
 
 same-length-2 : tie.Need-same-length-2
 same-length-2 c = search needs
@@ -129,29 +111,22 @@ same-length-2 c = search needs
 returns-2 : tie.Need-returns-2
 unfolding reportOf
 returns-2 c =
-    let a = c .before .before .before .before .before .before .before .before .answer2 .given in
-    let d = c .before .before .before .before .before .before .before .before .before .before .before .before in
-    let b = start d in
-    let p = plan d (a .0 .0) (a .0 .1 .0) (a .0 .1 .1 .0) (a .1) in
-    let q = resources-are d (a .0 .0) (a .0 .1 .0) (a .0 .1 .1 .0) (a .1) in
-    let t = tasks-are d (a .0 .0) (a .0 .1 .0) (a .0 .1 .1 .0) (a .1) in
-    let x = told (b .args .out .now) (reportOf (b .args .file .now)) (c .before .before .before .report-plan .ensures) (b .pre)
-    (ap (λ (x : List Resource). resultText (settleCall (a .0 .0) x (tasksOf (take (a .0 .1 .1 .0) (tasks d))))) q
-    ∙ ap (λ (x : List Task). resultText (settleCall (a .0 .0) (p .resources) x)) t
-    ∙ ap readText (sym (p .is))) in
-    (x .stands, (x .count, x .within))
+    let settled = c .before .before .before .before in
+    let p = settled .before .before .before .before .before in
+    let b = start (read p) in
+    told (b .args .out .now) (reportOf (b .args .file .now)) (settled .report-plan .ensures) (b .pre) (ap readText (plan-is p))
 
 pub report-spec : {M : Type 1} → statement M
 report-spec =
     tie.close
     (tie.spec
-    slice-aggregate-read-plan
-    slice-aggregate-read-plan-2
-    read-plan-requires
-    enum-known-answer
+    slice-aggregate-read-lent
+    slice-aggregate-read-lent-2
+    read-lent-requires
+    enum-known-f
     put-refused-requires
-    enum-known-answer-2
-    array-share-prefix-resources
+    enum-known-sense
+    array-borrow-prefix-resources
     slice-aggregate-report-plan
     array-borrow-prefix-tasks
     slice-aggregate-report-plan-2

@@ -4,69 +4,75 @@ use mathlib.Core.Path.{_≡_, refl, sym, ap, _∙_}
 use mathlib.Core.List.{List}
 use Prim.Native.Nat.{_≤_}
 use lib.ListN.{length}
-use Rattle.plan.specs.declared.Resource.{Resource}
-use Rattle.plan.specs.declared.Task.{Task}
 use Rattle.plan.specs.declared.Answer.{Answer}
-use Rattle.rules.specs.Calls.{settleCall}
-use Rattle.rows.specs.View.{tasksOf, resourcesOf}
+use Rattle.plan.specs.declared.Call.the-variants.{Settle}
+use Rattle.plan.specs.declared.Sense.the-variants.{AtLeast}
+use Rattle.plan.specs.declared.Task.{Task}
+use Rattle.plan.specs.Tasks.{mostTasks}
+use Rattle.rules.specs.Frame.{Frame}
+use Rattle.rules.specs.Calls.{callOf, resultOf}
+use Rattle.rules.proofs.Checks.{accepts, check-sense}
+use Rattle.rows.specs.View.{tasksOf, resourcesOf, frameOf}
 use Rattle.rows.proofs.View.{length-tasks}
-use Rattle.rows.proofs.Fits.{accepts}
-use Rattle.engine.specs.Answers.{resultOf}
 use Rattle.text.proofs.Texts.{put-is, put-wider}
 use Rattle.report.specs.Report.{resultText}
 use borrow.Author.Needs.{needs}
-use Rattle.passes.proofs.Room.{roomy}
 use Rattle.report.proofs.report_plan.Statement.{statement}
 use Rattle.report.proofs.report_plan.Tie as tie
 
-abbrev qs : tie.Start → List Resource
-qs c = resourcesOf (c .args .q .now)
+abbrev f : tie.Start → Frame
+f c = frameOf (c .args .sense) (c .args .q .now)
 
 abbrev ts : tie.Start → List Task
 ts c = tasksOf (c .args .s .now)
 
+few : (c : tie.Start) → length (c .args .s .now) ≤ mostTasks
+few c = omega (arith, accepts (f c) (ts c) (c .pre .0) .few, length-tasks (c .args .s .now))
+
 -- what the call left
-module _ (c : tie.After-worked) where
+module _ (c : tie.After-apply) where
   abbrev start : tie.Start
-  start = c .before .before .before .before .before .before
+  start = c .before .before .before .before .before .before .before
 
   abbrev us : List Task
-  us = tasksOf (c .worked .last .1 .1 .1 .0)
+  us = tasksOf (c .apply .last .1 .1 .1 .0)
 
-  call-is : (a : Answer) → c .worked .result ≡ a → resultOf a (ts start) us ≡ settleCall (start .args .sense) (qs start) (ts start)
-  call-is a e = ap (λ (x : Answer). resultOf x (ts start) us) (sym e) ∙ c .worked .ensures
+  call-is : (a : Answer) → c .apply .result ≡ a → resultOf a (ts start) us ≡ callOf Settle (f start) (ts start)
+  call-is a e = ap (λ (x : Answer). resultOf x (ts start) us) (sym e) ∙ c .apply .ensures .0
 
-  few : length (c .worked .last .1 .1 .1 .0) ≤ 256
-  few =
-      omega (arith, accepts (qs start) (ts start) (start .pre .0) .few, length-tasks (start .args .s .now), c .worked .kept)
+slice-aggregate-apply : tie.Need-slice-aggregate-apply
+slice-aggregate-apply c = search needs
 
-slice-aggregate-worked : tie.Need-slice-aggregate-worked
-slice-aggregate-worked c = search needs
+slice-aggregate-apply-2 : tie.Need-slice-aggregate-apply-2
+slice-aggregate-apply-2 c = search needs
 
-slice-aggregate-worked-2 : tie.Need-slice-aggregate-worked-2
-slice-aggregate-worked-2 c = search needs
+slice-aggregate-apply-3 : tie.Need-slice-aggregate-apply-3
+slice-aggregate-apply-3 c = search needs
 
-slice-aggregate-worked-3 : tie.Need-slice-aggregate-worked-3
-slice-aggregate-worked-3 c = search needs
+apply-requires : tie.Need-apply-requires
+apply-requires c κs =
+    let b = c .before .before .before .before .before .before in
+    let l = few b in (
+      refl,
+      record {
+        accepted = check-sense AtLeast (b .args .sense) (resourcesOf (b .args .q .now)) (ts b) ∙ b .pre .0;
+        lent = record { keys-long = omega arith; spare-long = omega arith; stretches-long = omega arith };
+      },
+    )
 
-worked-requires : tie.Need-worked-requires
-worked-requires c κs =
-    let b = c .before .before .before .before .before in
-    ((b .pre .0, refl), roomy (qs b) (b .args .s .now) (b .pre .0) _ _ _ (omega arith) (omega arith) (omega arith))
-
-enum-known-answer : tie.Need-enum-known-answer
-enum-known-answer c = search needs
+enum-known-f : tie.Need-enum-known-f
+enum-known-f c = search needs
 
 put-refused-requires : tie.Need-put-refused-requires
 put-refused-requires c κs = search needs
 
-enum-known-answer-2 : tie.Need-enum-known-answer-2
-enum-known-answer-2 c = search needs
+enum-known-n : tie.Need-enum-known-n
+enum-known-n c = search needs
 
 put-plan-requires : tie.Need-put-plan-requires
 put-plan-requires c κs =
-    let w = c .before .before .before .before .before .before .before .before .before in
-    (few w, start w .pre .1)
+    let d = c .before .before .before .before .before .before .before .before .before .before in
+    (omega (arith, few (start d), d .apply .kept .1 .1 .1 .0), start d .pre .1)
 
 same-length : tie.Need-same-length
 same-length c = search needs
@@ -74,41 +80,49 @@ same-length c = search needs
 same-length-2 : tie.Need-same-length-2
 same-length-2 c = search needs
 
+same-length-3 : tie.Need-same-length-3
+same-length-3 c = search needs
+
 returns : tie.Need-returns
 returns c =
     let refused = c .before .before in
-    let w = refused .before .before .before .before .before .before .before .before .before in
-    let f = refused .before .before .before .answer .given in
-    put-wider (omega arith) (put-is (ap resultText (call-is w (Answer.Refused (f .0 .0)) (f .1))) (refused .put-refused .ensures))
-
-same-length-3 : tie.Need-same-length-3
-same-length-3 c = search needs
+    let e = refused .before .before .before in
+    let d = e .before .before .before .before .before .before .before in
+    put-wider (omega arith) (put-is (ap resultText (call-is d (Answer.Refused (e .f .given .0 .0)) (e .f .given .1))) (refused .put-refused .ensures))
 
 same-length-4 : tie.Need-same-length-4
 same-length-4 c = search needs
 
+same-length-5 : tie.Need-same-length-5
+same-length-5 c = search needs
+
+same-length-6 : tie.Need-same-length-6
+same-length-6 c = search needs
+
 returns-2 : tie.Need-returns-2
 returns-2 c =
-    let settled = c .before .before in
-    let w = settled .before .before .before .before .before .before .before .before .before .before in
-    let n = settled .before .before .before .before .answer2 .given in
-    put-is (ap resultText (call-is w (Answer.Done (n .0 .0)) (n .1))) (settled .put-plan .ensures)
+    let told = c .before .before in
+    let e = told .before .before .before .before in
+    let d = e .before .before .before .before .before .before .before in
+    put-is (ap resultText (call-is d (Answer.Done (e .n .given .0 .0)) (e .n .given .1))) (told .put-plan .ensures)
 
 pub report-plan-spec : {M : Type 1} → statement M
 report-plan-spec =
     tie.close
     (tie.spec
-    slice-aggregate-worked
-    slice-aggregate-worked-2
-    slice-aggregate-worked-3
-    worked-requires
-    enum-known-answer
+    slice-aggregate-apply
+    slice-aggregate-apply-2
+    slice-aggregate-apply-3
+    apply-requires
+    enum-known-f
     put-refused-requires
-    enum-known-answer-2
+    enum-known-n
     put-plan-requires
     same-length
     same-length-2
-    returns
     same-length-3
+    returns
     same-length-4
+    same-length-5
+    same-length-6
     returns-2)

@@ -7,7 +7,7 @@ use mir.Syntax.{w32, w64}
 use mir.Val.{SFits}
 use mir.Facts.{toZ-ofZ}
 use Rattle.integers.proofs.Z.{z, ltZ-out, sfits-up, sfits-dn}
-use Rattle.rows.specs.View.{idOf}
+use Rattle.rows.specs.View.{idHigh, idOf}
 use Rattle.rows.proofs.id_in.Statement.{statement}
 use Rattle.rows.proofs.id_in.Tie as tie
 
@@ -22,8 +22,8 @@ unfolding idOf
 returns c =
     let x = c .args .x in
     let f = c .fits .x in
-    let a : ltZ x (negsuc 2147483647) ≡ false = ltZ-out x (negsuc 2147483647) (omega (z, sfits-dn w32 x f)) in
-    let b : ltZ (pos 2147483647) x ≡ false = ltZ-out (pos 2147483647) x (omega (z, sfits-up w32 x f)) in
+    let a : ltZ x (negsuc idHigh) ≡ false = ltZ-out x (negsuc idHigh) (omega (z, sfits-dn w32 x f)) in
+    let b : ltZ (pos idHigh) x ≡ false = ltZ-out (pos idHigh) x (omega (z, sfits-up w32 x f)) in
     simp (toZ-ofZ f, toZ-ofZ (wide x f), a, b)
 
 pub id-in-spec : {M : Type 1} → statement M

@@ -4,9 +4,11 @@ use lib.ListN.{getD, set}
 use Rattle.rules.specs.Settle.{sameTask}
 use mathlib.Core.Path.{_≡_, sym, ap, _∙_}
 use lib.Seq.{set-getD}
-use Rattle.rows.specs.Changes.{union, seenBy}
-use Rattle.rows.specs.View.{tasksOf, noTask}
-use Rattle.rows.proofs.Changes.{same-task-is}
+use Rattle.plan.specs.Sets.{union}
+use Rattle.plan.specs.Tasks.{noTask}
+use Rattle.rules.proofs.Rooms.{same-task-is}
+use Rattle.rows.specs.Changes.{seenBy}
+use Rattle.rows.specs.View.{tasksOf}
 use borrow.Author.Needs.{needs}
 use Rattle.rows.proofs.put_changed.Statement.{statement}
 use Rattle.rows.proofs.put_changed.Tie as tie

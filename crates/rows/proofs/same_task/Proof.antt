@@ -1,8 +1,7 @@
--- The sets, and the ranges only where the sets are the same.
+-- The sets, then the ranges.
+use borrow.Author.Needs.{needs}
 use borrow.Author.Tests.{eq-eqb, ne-eqb}
 use Rattle.rules.specs.Settle.{sameTask}
-use Rattle.rows.specs.Changes.{sameRanges}
-use borrow.Author.Needs.{needs}
 use Rattle.rows.proofs.same_task.Statement.{statement}
 use Rattle.rows.proofs.same_task.Tie as tie
 
@@ -10,7 +9,7 @@ same-ranges-requires : tie.Need-same-ranges-requires
 same-ranges-requires c κs = search needs
 
 returns : tie.Need-returns
-unfolding sameTask sameRanges
+unfolding sameTask
 returns c = simp (eq-eqb _ _ (c .before .if1 .taken), c .same-ranges .ensures)
 
 returns-2 : tie.Need-returns-2

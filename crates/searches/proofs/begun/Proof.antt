@@ -1,17 +1,16 @@
 -- By halves: the first `low` begin before the day, those from `high` on do not.
 use native.Mathlib.Omega.{arith}
-use mathlib.Core.Path.{_≡_, sym, ap, _∙_}
+use mathlib.Core.Path.{_≡_, sym, _∙_}
 use mathlib.Core.Bool.{true, false}
 use Prim.Native.Nat.{_+_, _-_, _/_, _≤_}
 use lib.ListN.{length, getD}
 use lib.Signed.{ltZ}
 use Rattle.integers.proofs.Z.{z}
-use Rattle.stretches.specs.declared.Stretch.{Stretch}
 use Rattle.stretches.specs.View.{stretchesOf, noStretch}
 use Rattle.stretches.specs.Tells.{Ordered}
 use Rattle.stretches.proofs.View.{length-stretches}
 use Rattle.searches.specs.Searches.{Begun}
-use Rattle.searches.proofs.Halves.{begun-start, begun-low, begun-high, begun-end}
+use Rattle.searches.proofs.Order.{begun-start, begun-low, begun-high, begun-end}
 use Rattle.searches.proofs.begun.Statement.{statement}
 use Rattle.searches.proofs.begun.Tie as tie
 
@@ -22,7 +21,9 @@ abbrev μ-loop : tie.MeasureT-loop
 μ-loop ss d low₀ high₀ low high = high - low
 
 loop-holds : tie.Need-loop-holds Inv-loop μ-loop
-loop-holds c = (omega arith, omega arith, λ o. begun-start (stretchesOf (c .args .ss .now)) (c .args .d .0) (length (c .args .ss .now)) (omega (arith, length-stretches (c .args .ss .now))))
+loop-holds c =
+    let ss = c .args .ss .now in
+    (omega arith, omega arith, λ o. begun-start (stretchesOf ss) (c .args .d .0) (length ss) (omega (arith, length-stretches ss)))
 
 sub-mid : tie.Need-sub-mid Inv-loop μ-loop
 sub-mid c = omega arith
@@ -36,10 +37,6 @@ stretch-at-requires c κs = omega arith
 before-requires : tie.Need-before-requires Inv-loop μ-loop
 before-requires c κs = tt
 
--- the test is whether the middle stretch begins before the day
-test : (c : tie.After-before2 Inv-loop μ-loop) → c .before2 .result ≡ ltZ ((getD (stretchesOf (c .before .before .before .before .before .args .ss .now)) (c .before .before .before .before .loop .low + (c .before .before .before .before .loop .high - c .before .before .before .before .loop .low) / 2) noStretch) .from .0) (c .before .before .before .before .before .args .d .0)
-test c = c .before2 .ensures ∙ ap (λ (s : Stretch). ltZ (s .from .0) (c .before .before .before .before .before .args .d .0)) (c .before .before .stretch-at .ensures)
-
 add-low : tie.Need-add-low Inv-loop μ-loop
 add-low c = omega arith
 
@@ -52,7 +49,8 @@ loop-again c =
     let a = b .before in
     let ss = stretchesOf (a .args .ss .now) in
     let mid = b .loop .low + (b .loop .high - b .loop .low) / 2 in
-    let e : ltZ ((getD ss mid noStretch) .from .0) (a .args .d .0) ≡ true = sym (test (c .before)) ∙ c .if1 .taken in (
+    let n = c .before in
+    let e : ltZ ((getD ss mid noStretch) .from .0) (a .args .d .0) ≡ true = rw (n .before .before .stretch-at .ensures) at (sym (n .before2 .ensures) ∙ c .if1 .taken) in (
       omega arith,
       omega arith,
       λ o.
@@ -68,7 +66,8 @@ loop-again-2 c =
     let a = b .before in
     let ss = stretchesOf (a .args .ss .now) in
     let mid = b .loop .low + (b .loop .high - b .loop .low) / 2 in
-    let e : ltZ ((getD ss mid noStretch) .from .0) (a .args .d .0) ≡ false = sym (test (c .before)) ∙ c .if1 .left in (
+    let n = c .before in
+    let e : ltZ ((getD ss mid noStretch) .from .0) (a .args .d .0) ≡ false = rw (n .before .before .stretch-at .ensures) at (sym (n .before2 .ensures) ∙ c .if1 .left) in (
       omega arith,
       omega arith,
       λ o.
@@ -84,17 +83,4 @@ returns c =
 pub begun-spec : {M : Type 1} → statement M
 begun-spec =
     tie.close
-    (tie.spec
-    Inv-loop
-    μ-loop
-    loop-holds
-    sub-mid
-    add-mid
-    stretch-at-requires
-    before-requires
-    add-low
-    loop-less
-    loop-again
-    loop-less-2
-    loop-again-2
-    returns)
+    (tie.spec Inv-loop μ-loop loop-holds sub-mid add-mid stretch-at-requires before-requires add-low loop-less loop-again loop-less-2 loop-again-2 returns)

@@ -6,14 +6,14 @@ use Rattle.plan.specs.declared.Day.{Day}
 use lib.Signed.{quotZ}
 use mir.Syntax.{w64}
 use Rattle.integers.proofs.Z.{back}
-use Rattle.searches.proofs.Long.{Halved, halved, fits-whole}
+use Rattle.searches.proofs.Durations.{Halved, halved, fits-whole}
 use Rattle.searches.proofs.half_of.Statement.{statement}
 use Rattle.searches.proofs.half_of.Tie as tie
 
 minus-requires : tie.Need-minus-requires
 minus-requires c κs = let a = c .before .before in fits-whole (a .args .w) (a .pre)
 
-known : (c : tie.After-struct-told) → Halved (c .before .before .before .before .before .args .w .from .0) (c .before .before .before .before .before .args .w .to .0) (c .before .before .minus .result .0)
+known : (c : tie.After-struct-told) → Halved (c .before .before .before .before .before .args .w) (c .before .before .minus .result .0)
 known c =
     let a = c .before .before .before .before .before in
     halved (a .args .w) (c .before .before .minus .result .0) (ap (λ (x : Day). x .0) (c .before .before .minus .ensures)) (a .pre)

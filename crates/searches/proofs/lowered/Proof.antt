@@ -1,5 +1,6 @@
 -- The slack is compared only where a day is shared.
 use mathlib.Core.Path.{_≡_, sym, _∙_}
+use mathlib.Core.Logic.{⊎-elim}
 use mathlib.Core.Bool.{Bool}
 use lib.Signed.{ltZ}
 use Rattle.integers.specs.Whole.{larger, smaller}
@@ -30,27 +31,13 @@ meets c = simp (c .before2 .ensures, c .before .smaller .ensures, c .before .bef
 
 returns : tie.Need-returns
 returns c =
-    let g = sym (meets (c .before .before .before)) ∙ c .before .before .if1 .taken in
-    let h = sym (c .before .below .ensures) ∙ c .if2 .taken in
-    simp (g, h)
+    let m = c .before .before in
+    rw (sym (meets (m .before)) ∙ m .if1 .taken, sym (c .before .below .ensures) ∙ c .if2 .taken)
 
 returns-2 : tie.Need-returns-2
 returns-2 c =
-    let g = sym (meets (c .before .before .before)) ∙ c .before .before .if1 .taken in
-    let h = sym (c .before .below .ensures) ∙ c .if2 .left in
-    simp (g, h)
-
-returns-3 : tie.Need-returns-3
-returns-3 c = let g = sym (meets (c .before)) ∙ c .if1 .left in simp g
+    let g = meets (c .before) in
+    ⊎-elim (λ w. rw (sym g ∙ w .0 .taken, sym (w .1 .ensures) ∙ w .2 .left)) (λ w. rw (sym g ∙ w .left)) (c .if1 .came)
 
 pub lowered-spec : {M : Type 1} → statement M
-lowered-spec =
-    tie.close
-    (tie.spec
-    larger-requires
-    smaller-requires
-    before-requires
-    below-requires
-    returns
-    returns-2
-    returns-3)
+lowered-spec = tie.close (tie.spec larger-requires smaller-requires before-requires below-requires returns returns-2)

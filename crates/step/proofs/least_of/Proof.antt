@@ -1,29 +1,26 @@
--- `step::least_of`: of the first k stretches none has less.
+-- `least_of`: of the first k stretches none has less.
 use native.Mathlib.Omega.{arith}
 use native.Mathlib.Nat.{not-suc-le-zero}
-use mathlib.Core.Path.{sym, _∙_}
 use Prim.Native.Nat.{ℕ, _-_, _≤_, _<_}
 use borrow.Author.Count.{below-more}
 use lib.ListN.{length, getD}
 use lib.Signed.{_≤ℤ_}
-use Rattle.integers.proofs.Z.{z}
+use Rattle.integers.proofs.Z.{z, minz}
 use Rattle.stretches.specs.View.{stretchesOf, noStretch}
 use Rattle.stretches.proofs.View.{length-stretches}
-use Rattle.step.proofs.Listed.{lower-first, lower-second}
 use Rattle.step.proofs.least_of.Statement.{statement}
 use Rattle.step.proofs.least_of.Tie as tie
 
 abbrev Inv-loop : tie.InvT-loop
 Inv-loop ss l₀ k₀ l k =
     (k ≤ length ss)
-    × ((q : ℕ) → q < k → l .slack .0 ≤ℤ getD (stretchesOf ss) q noStretch .slack .0)
-    × ((q : ℕ) → q < k → l .tight .0 ≤ℤ getD (stretchesOf ss) q noStretch .tight .0)
+    × ((q : ℕ) → q < k → (l .slack .0 ≤ℤ getD (stretchesOf ss) q noStretch .slack .0) × (l .tight .0 ≤ℤ getD (stretchesOf ss) q noStretch .tight .0))
 
 abbrev μ-loop : tie.MeasureT-loop
 μ-loop ss l₀ k₀ l k = length ss - k
 
 loop-holds : tie.Need-loop-holds Inv-loop μ-loop
-loop-holds c = (omega arith, λ q h. absurd (not-suc-le-zero h), λ q h. absurd (not-suc-le-zero h))
+loop-holds c = (omega arith, λ q h. absurd (not-suc-le-zero h))
 
 stretch-at-requires : tie.Need-stretch-at-requires Inv-loop μ-loop
 stretch-at-requires c κs = omega arith
@@ -40,25 +37,20 @@ loop-less c = omega arith
 loop-again : tie.Need-loop-again Inv-loop μ-loop
 loop-again c =
     let l = c .before .before .before in
-    let ss = stretchesOf (l .before .args .ss .now) in
     let t = c .before .stretch-at in
     let e = c .lowered .ensures in
-    let slack = l .loop .l .slack in
-    let tight = l .loop .l .tight in (
+    let slack = minz (l .loop .l .slack .0) (t .result .slack .0) in
+    let tight = minz (l .loop .l .tight .0) (t .result .tight .0) in (
       omega arith,
       below-more _ (l .loop .k)
-          (λ q h. let u = l .loop .inv .1 q h in rw e (omega (z, u, lower-first slack (t .result .slack))))
-          (rw (e, ← (t .ensures)) (omega (z, lower-second slack (t .result .slack)))),
-      below-more _ (l .loop .k)
-          (λ q h. let u = l .loop .inv .2 q h in rw e (omega (z, u, lower-first tight (t .result .tight))))
-          (rw (e, ← (t .ensures)) (omega (z, lower-second tight (t .result .tight)))),
+          (λ q h. let u = l .loop .inv .1 q h in rw e (omega (z, u, slack, tight)))
+          (rw (e, ← (t .ensures)) (omega (z, slack, tight))),
     )
 
 returns : tie.Need-returns Inv-loop μ-loop
 returns c =
     let l = c .before in
-    let n = length-stretches (l .before .args .ss .now) in
-    record { slack = λ q h. l .loop .inv .1 q (omega (arith, n)); tight = λ q h. l .loop .inv .2 q (omega (arith, n)) }
+    λ q h. l .loop .inv .1 q (omega (arith, length-stretches (l .before .args .ss .now)))
 
 pub least-of-spec : {M : Type 1} → statement M
 least-of-spec =

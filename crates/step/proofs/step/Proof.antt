@@ -1,26 +1,23 @@
 -- A shortfall is no plan; else every task by itself, as the page has it.
-use native.Mathlib.Omega.{arith}
-use mathlib.Core.Path.{_≡_, refl, sym, ap, _∙_, subst}
-use mathlib.Core.Bool.{Bool, true, false}
-use mathlib.Core.List.{List, []}
-use Prim.Native.Nat.{ℕ, _≤_, _<_}
+use mathlib.Core.Path.{_≡_, refl, sym, _∙_, subst}
+use mathlib.Core.Bool.{false}
+use mathlib.Core.List.{[]}
+use Prim.Native.Nat.{ℕ}
 use lib.IntN.{ℤ}
-use lib.ListN.{length, take, getD}
+use lib.ListN.{length, take}
 use lib.Seq.{length-take-le}
 use Rattle.integers.specs.Tests.{any}
+use Rattle.integers.specs.Lists.{In}
 use Rattle.integers.proofs.Tests.{clash}
+use Rattle.integers.proofs.Lists.{each-so}
 use Rattle.plan.specs.declared.Task.{Task}
 use Rattle.rules.specs.Step.{shortfall, listedDays}
-use Rattle.rows.specs.View.{tasksOf, noTask}
-use Rattle.rows.proofs.View.{length-tasks}
+use Rattle.rows.specs.View.{tasksOf}
 use Rattle.rows.proofs.Changes.{touched-self}
-use Rattle.rows.proofs.Fits.{bounded-in, limit-out}
-use Rattle.stretches.specs.declared.Stretch.{Stretch}
 use Rattle.stretches.specs.View.{stretchesOf}
 use Rattle.stretches.specs.Tells.{Tells}
 use Rattle.stretches.proofs.View.{stretches-take}
-use Rattle.profile.specs.Promise.{Lent, Profile}
-use Rattle.step.specs.Asks.{Told}
+use Rattle.step.specs.Told.{TellsAll}
 use Rattle.step.proofs.Listed.{none-left, step-enough, step-short}
 use borrow.Author.Needs.{needs}
 use Rattle.step.proofs.step.Statement.{statement}
@@ -29,19 +26,7 @@ use Rattle.step.proofs.step.Tie as tie
 profile-requires : tie.Need-profile-requires
 profile-requires c κs =
     let b = c .before .before .before .before .before .before in
-    let a = b .args in
-    let l = limit-out (a .limit) (b .pre .0 .limited) in (
-      record {
-        tasks-few = omega (arith, b .pre .0 .few, length-tasks (a .s .now));
-        place = b .pre .0 .place;
-        least = l .0;
-        most = l .1;
-        keys-long = omega (arith, b .pre .1 .keys);
-        spare-long = omega (arith, b .pre .1 .spare);
-        stretches-long = omega (arith, b .pre .1 .stretches);
-      },
-      λ k h. bounded-in (getD (tasksOf (a .s .now)) k noTask) (b .pre .0 .fit k h .ranges),
-    )
+    (b .pre .0, (b .pre .1 .0, each-so (λ t h. h .ranges) (b .pre .1 .1)))
 
 same-length : tie.Need-same-length
 same-length c = search needs
@@ -85,15 +70,16 @@ returns-2 c =
     let ss = stretchesOf (d .profile .last .1 .1 .1 .1 .1 .0) in
     let q = d .profile .ensures .1 in
     let enough : any (shortfall r limit ts) (listedDays ts) ≡ false = sym (q .short-is) ∙ c .before .if1 .left in
-    let tells : (k : ℕ) → k < length ts → Tells r limit ts (getD ts k noTask) [] =
-    λ k l. subst (λ (n : ℕ). Tells r limit ts (getD ts k noTask) (take n ss)) (c .if2 .taken) (q .tells k l) in
-    (sym (step-enough r limit ts enough ∙ none-left r limit ts (b .pre .0 .fit) tells), λ h. sym (touched-self ts))
+    let tells : (t : Task) → In t ts → Tells r limit ts t [] = λ t k. subst (λ (n : ℕ). Tells r limit ts t (take n ss)) (c .if2 .taken) (q .tells k) in
+    (sym (step-enough r limit ts enough ∙ none-left r limit ts (b .pre .1 .1) tells), λ h. sym (touched-self ts))
 
 slice-reshare-prefix-narrow-all : tie.Need-slice-reshare-prefix-narrow-all
 slice-reshare-prefix-narrow-all c = search needs
 
 slice-aggregate-narrow-all : tie.Need-slice-aggregate-narrow-all
-slice-aggregate-narrow-all c = sym (length-take-le (c .before .before .before .before .before .before .before .before .before .profile .result .stretches) _ (c .before .before .before .before .before .before .before .before .before .profile .ensures .0))
+slice-aggregate-narrow-all c =
+    let p = c .before .before .before .before .before .before .before .before .before .profile in
+    sym (length-take-le (p .result .stretches) _ (p .ensures .0))
 
 narrow-all-requires : tie.Need-narrow-all-requires
 narrow-all-requires c κs = search needs
@@ -121,8 +107,8 @@ returns-3 c =
     let ss = d .profile .last .1 .1 .1 .1 .1 .0 in
     let q = d .profile .ensures .1 in
     let enough : any (shortfall r limit ts) (listedDays ts) ≡ false = sym (q .short-is) ∙ c .before .before .before .before .before .if1 .left in
-    let told : Told r limit ts (stretchesOf (take n ss)) =
-    record { tells = λ k l. subst (Tells r limit ts (getD ts k noTask)) (sym (stretches-take n ss)) (q .tells k l); enough = enough } in
+    let told : TellsAll r limit ts (stretchesOf (take n ss)) =
+    record { tells = λ {t} k. subst (Tells r limit ts t) (sym (stretches-take n ss)) (q .tells k); enough = enough } in
     (c .before .narrow-all .ensures .0 limit told ∙ sym (step-enough r limit ts enough), c .before .narrow-all .ensures .1)
 
 pub step-spec : {M : Type 1} → statement M

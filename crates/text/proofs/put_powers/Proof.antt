@@ -3,6 +3,7 @@ use Rattle.text.proofs.Texts.{put-range}
 use native.Mathlib.Omega.{arith}
 use mir.Syntax.{w64}
 use Rattle.integers.proofs.Z.{back}
+use Rattle.plan.specs.Powers.{powersOf}
 use borrow.Author.Needs.{needs}
 use Rattle.text.proofs.put_powers.Statement.{statement}
 use Rattle.text.proofs.put_powers.Tie as tie
@@ -21,7 +22,7 @@ returns c =
     let high = c .before .before in
     let low = high .before .before .before .before .before in
     let s = low .before .before .before .before .args .s in
-    put-range (s .low .0) (s .high .0) (low .put-spaced .ensures) (high .put-spaced2 .ensures) (back w64 (s .low .0) (omega arith)) (back w64 (s .high .0) (omega arith))
+    put-range (powersOf s) (low .put-spaced .ensures) (high .put-spaced2 .ensures) (back w64 (s .low .0) (omega arith)) (back w64 (s .high .0) (omega arith))
 
 pub put-powers-spec : {M : Type 1} → statement M
 put-powers-spec =

@@ -1,13 +1,17 @@
 -- The word, the number, the place.
-use mathlib.Core.Path.{refl, ap}
+use native.Mathlib.Omega.{arith}
+use mathlib.Core.Path.{ap}
 use Rattle.text.specs.Text.{digits, refusedWord, refusedLine}
-use Rattle.text.proofs.Texts.{put-is, put-then, put-eight}
+use Rattle.text.proofs.Texts.{put-is, put-then, put-copied}
 use borrow.Author.Needs.{needs}
 use Rattle.text.proofs.put_refused.Statement.{statement}
 use Rattle.text.proofs.put_refused.Tie as tie
 
-put-refused-word-requires : tie.Need-put-refused-word-requires
-put-refused-word-requires c κs = search needs
+slice-aggregate-copy : tie.Need-slice-aggregate-copy
+slice-aggregate-copy c = search needs
+
+copy-requires : tie.Need-copy-requires
+copy-requires c κs = search needs
 
 number-requires : tie.Need-number-requires
 number-requires c κs = search needs
@@ -38,7 +42,7 @@ returns c =
     let gap = place .before .before .before .before .before in
     let count = gap .before .before .before .before in
     let word = count .before .before .before .before .before in
-    put-then (put-eight refusedWord refl (word .put-refused-word .ensures))
+    put-then (put-copied refusedWord _ (omega arith) (word .copy .ensures))
     (put-then (put-is (ap digits (count .before .number .ensures)) (count .put-digits .ensures))
     (put-then (gap .put-byte .ensures)
     (put-then (put-is (ap digits (place .before .place .ensures)) (place .put-digits2 .ensures)) (feed .put-byte2 .ensures))))
@@ -47,7 +51,8 @@ pub put-refused-spec : {M : Type 1} → statement M
 put-refused-spec =
     tie.close
     (tie.spec
-    put-refused-word-requires
+    slice-aggregate-copy
+    copy-requires
     number-requires
     put-digits-requires
     put-byte-requires

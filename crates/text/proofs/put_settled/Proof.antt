@@ -1,13 +1,16 @@
 -- The word, then the count.
-use mathlib.Core.Path.{refl}
+use native.Mathlib.Omega.{arith}
 use Rattle.text.specs.Text.{settledWord, settledLine}
-use Rattle.text.proofs.Texts.{put-then, put-eight}
+use Rattle.text.proofs.Texts.{put-then, put-copied}
 use borrow.Author.Needs.{needs}
 use Rattle.text.proofs.put_settled.Statement.{statement}
 use Rattle.text.proofs.put_settled.Tie as tie
 
-put-settled-word-requires : tie.Need-put-settled-word-requires
-put-settled-word-requires c κs = search needs
+slice-aggregate-copy : tie.Need-slice-aggregate-copy
+slice-aggregate-copy c = search needs
+
+copy-requires : tie.Need-copy-requires
+copy-requires c κs = search needs
 
 put-digits-requires : tie.Need-put-digits-requires
 put-digits-requires c κs = search needs
@@ -24,9 +27,15 @@ returns c =
     let feed = c .before .before in
     let count = feed .before .before .before .before in
     let word = count .before .before .before .before in
-    put-then (put-eight settledWord refl (word .put-settled-word .ensures)) (put-then (count .put-digits .ensures) (feed .put-byte .ensures))
+    put-then (put-copied settledWord _ (omega arith) (word .copy .ensures)) (put-then (count .put-digits .ensures) (feed .put-byte .ensures))
 
 pub put-settled-spec : {M : Type 1} → statement M
 put-settled-spec =
     tie.close
-    (tie.spec put-settled-word-requires put-digits-requires put-byte-requires same-length returns)
+    (tie.spec
+    slice-aggregate-copy
+    copy-requires
+    put-digits-requires
+    put-byte-requires
+    same-length
+    returns)

@@ -4,7 +4,8 @@ use mathlib.Core.Path.{ap}
 use Prim.Native.Nat.{_-_}
 use lib.ListN.{length}
 use borrow.Author.Needs.{needs}
-use Rattle.rows.specs.View.{tasksOf, noTask}
+use Rattle.plan.specs.Tasks.{noTask}
+use Rattle.rows.specs.View.{tasksOf}
 use Rattle.text.specs.Text.{taskLine}
 use Rattle.rows.proofs.View.{length-tasks}
 use Rattle.text.proofs.Texts.{put-is, Lines, lines-start, lines-go-on, lines-end}

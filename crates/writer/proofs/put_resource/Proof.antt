@@ -4,8 +4,10 @@ use mathlib.Core.Path.{sym}
 use mir.Syntax.{w32, w64}
 use mir.Val.{SFits}
 use mir.Facts.{toZ-ofZ, sfits-widen}
+use Rattle.format.specs.declared.Mark.the-variants.{RS}
+use Rattle.format.specs.Format.{resourceNumbers}
 use Rattle.format.proofs.Numbers.{widened}
-use Rattle.format.proofs.Stores.{resource-stores}
+use Rattle.format.proofs.Stores.{record-stored}
 use borrow.Author.Needs.{needs}
 use Rattle.writer.proofs.put_resource.Statement.{statement}
 use Rattle.writer.proofs.put_resource.Tie as tie
@@ -36,6 +38,7 @@ same-length : tie.Need-same-length
 same-length c = search needs
 
 returns : tie.Need-returns
+unfolding resourceNumbers
 returns c =
     let limit = c .before .before in
     let id = limit .before .before .before .before .before in
@@ -43,7 +46,7 @@ returns c =
     let s = mark .before .before .before in
     let wide : SFits w64 (s .args .q .limit .0) = sfits-widen {w = w32} tt (s .pre .1 .limit) in
     rw (limit .put-signed2 .ensures, id .put-signed .ensures, mark .put-mark .ensures, widened (s .args .q .id) (s .pre .1 .id), toZ-ofZ wide)
-    (sym (resource-stores (s .args .b .now) (s .args .at) (s .args .q)))
+    (sym (record-stored RS (s .args .b .now) (s .args .at) (resourceNumbers (s .args .q))))
 
 pub put-resource-spec : {M : Type 1} → statement M
 put-resource-spec =

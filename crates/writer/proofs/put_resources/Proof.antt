@@ -5,39 +5,35 @@ use Prim.Native.Nat.{_-_}
 use lib.ListN.{length}
 use lib.Seq.{sets}
 use borrow.Author.Needs.{needs}
+use Rattle.integers.proofs.Lists.{each-at}
 use Rattle.plan.specs.declared.Resource.{Resource}
-use Rattle.rows.specs.View.{resourcesOf, noResource}
+use Rattle.plan.specs.Tasks.{noResource}
+use Rattle.rows.specs.View.{resourcesOf}
 use Rattle.rows.proofs.View.{length-resources}
-use Rattle.format.specs.declared.Mark.the-variants.{RS}
-use Rattle.format.specs.Format.{recordBytes, resourceNumbers}
+use Rattle.format.specs.declared.Mark.the-variants.{PL, RS}
+use Rattle.format.specs.Format.{size, recordBytes, resourceNumbers}
 use Rattle.format.specs.Writing.{ResourceSmall}
-use Rattle.format.proofs.Passed.{resource-held}
-use Rattle.format.proofs.Runs.{each-at, Storing, storing-starts, storing-goes-on, storing-ends}
+use Rattle.format.proofs.Layouts.{resources-lawful}
+use Rattle.format.proofs.Runs.{Storing, storing-starts, storing-goes-on, storing-ends}
 use Rattle.writer.proofs.put_resources.Statement.{statement}
 use Rattle.writer.proofs.put_resources.Tie as tie
 
 abbrev Inv-loop : tie.InvT-loop
-Inv-loop b₀ from q at₀ i₀ b at i = Storing RS resourceNumbers (resourcesOf q) b₀ from i at b
+Inv-loop b₀ q at₀ i₀ b at i = Storing resources-lawful (resourcesOf q) b₀ (size PL) i at b
 
 abbrev μ-loop : tie.MeasureT-loop
-μ-loop b₀ from q at₀ i₀ b at i = length q - i
-
--- each that is stored fits its record
-small : (c : tie.After-resource-at Inv-loop μ-loop) → ResourceSmall (c .resource-at .result)
-small c =
-    let s = c .before .before .before .before .before in
-    let l = c .before .before .before .loop in
-    subst (λ (x : Resource). ResourceSmall x) (sym (c .resource-at .ensures))
-    (each-at (s .pre .1) (l .i) noResource (omega (arith, length-resources (s .args .q .now), c .before .before .loop-test)))
+μ-loop b₀ q at₀ i₀ b at i = length q - i
 
 loop-holds : tie.Need-loop-holds Inv-loop μ-loop
-loop-holds c = let s = c .before in storing-starts RS resourceNumbers (resourcesOf (s .args .q .now)) (s .args .b .now) (s .args .from)
+loop-holds c = let s = c .before in storing-starts resources-lawful (resourcesOf (s .args .q .now)) (s .args .b .now) (size PL)
 
 resource-at-requires : tie.Need-resource-at-requires Inv-loop μ-loop
 resource-at-requires c κs = search needs
 
 put-resource-requires : tie.Need-put-resource-requires Inv-loop μ-loop
-put-resource-requires c κs = (omega arith, small c)
+put-resource-requires c κs =
+    let s = c .before .before .before .before .before in
+    (omega arith, subst ResourceSmall (sym (c .resource-at .ensures)) (each-at noResource (c .before .before .before .loop .i) (s .pre .1) (omega (arith, length-resources (s .args .q .now)))))
 
 add-at : tie.Need-add-at Inv-loop μ-loop
 add-at c = omega arith
@@ -52,10 +48,8 @@ loop-again : tie.Need-loop-again Inv-loop μ-loop
 loop-again c =
     let s = c .before .before .before .before .before .before .before .before in
     let l = c .before .before .before .before .before .before .loop in
-    let got = c .before .before .before .resource-at in
-    let e = c .before .before .put-resource .ensures ∙ ap (λ (x : Resource). sets (l .b) (l .at) (recordBytes RS (resourceNumbers x))) (got .ensures) in
-    let held = resource-held _ (subst (λ (x : Resource). ResourceSmall x) (got .ensures) (small (c .before .before .before))) in
-    storing-goes-on RS resourceNumbers (resourcesOf (s .args .q .now)) (s .args .b .now) (s .args .from) noResource (l .inv) (omega (arith, length-resources (s .args .q .now))) held e
+    let e = c .before .before .put-resource .ensures ∙ ap (λ (x : Resource). sets (l .b) (l .at) (recordBytes RS (resourceNumbers x))) (c .before .before .before .resource-at .ensures) in
+    storing-goes-on (l .inv) noResource (omega (arith, length-resources (s .args .q .now))) e
 
 same-length : tie.Need-same-length Inv-loop μ-loop
 same-length c = search needs
@@ -63,7 +57,7 @@ same-length c = search needs
 returns : tie.Need-returns Inv-loop μ-loop
 returns c =
     let s = c .before .before .before in
-    storing-ends RS resourceNumbers (resourcesOf (s .args .q .now)) (s .args .b .now) (s .args .from) (c .before .loop .inv) (omega (arith, length-resources (s .args .q .now)))
+    storing-ends (c .before .loop .inv) (omega (arith, length-resources (s .args .q .now)))
 
 pub put-resources-spec : {M : Type 1} → statement M
 put-resources-spec =

@@ -18,12 +18,10 @@ handed-requires : tie.Need-handed-requires
 handed-requires c κs = search needs
 
 returns : tie.Need-returns
-returns c = let a = c .before .before .before .before .args in
-    c .handed .ensures ∙ rest-handed (a .file .now) (a .self .at)
+returns c = let a = c .before .before .before .before .args in c .handed .ensures ∙ rest-handed (a .file .now) (a .self .at)
 
 returns-2 : tie.Need-returns-2
-returns-2 c = let a = c .before .before .args in
-    rest-none (a .file .now) (a .self .at) (c .if1 .left)
+returns-2 c = let a = c .before .before .args in rest-none (a .file .now) (a .self .at) (c .if1 .left)
 
 pub next-spec : {M : Type 1} → statement M
 next-spec =

@@ -1,6 +1,6 @@
 -- Four bytes: the low two, then the high two.
 use native.Mathlib.Omega.{arith}
-use Rattle.format.proofs.Numbers.{room, number-split}
+use Rattle.format.proofs.Numbers.{beyond, number-split}
 use borrow.Author.Needs.{needs}
 use Rattle.format.proofs.fields.four_at.Statement.{statement}
 use Rattle.format.proofs.fields.four_at.Tie as tie
@@ -21,7 +21,7 @@ add-result : tie.Need-add-result
 add-result c = search needs
 
 returns : tie.Need-returns
-unfolding room
+unfolding beyond
 returns c = let a = c .before .before .before .args in
     omega (arith, c .before .two-at .ensures .0, c .two-at2 .ensures .0, number-split 2 2 (a .at) (a .b .now) (omega arith))
 

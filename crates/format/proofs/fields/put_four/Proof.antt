@@ -1,5 +1,5 @@
 -- The low two bytes, then the high two.
-use Rattle.format.proofs.Numbers.{room}
+use Rattle.format.proofs.Numbers.{beyond}
 use Rattle.format.proofs.Stores.{put-parts}
 use borrow.Author.Needs.{needs}
 use Rattle.format.proofs.fields.put_four.Statement.{statement}
@@ -18,7 +18,7 @@ same-length : tie.Need-same-length
 same-length c = search needs
 
 returns : tie.Need-returns
-unfolding room
+unfolding beyond
 returns c = let a = c .before .before .before .before .before .before .before .before .before .args in
     cc (put-parts 2 2 (a .b .now) (a .at) (a .n), c .before .before .before .before .before .before .put-two .ensures, c .before .before .put-two2 .ensures)
 

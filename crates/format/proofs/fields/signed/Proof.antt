@@ -2,20 +2,20 @@
 use native.Mathlib.Omega.{arith}
 use borrow.Author.Tests.{le-ltb, lt-ltb}
 use mathlib.Core.Path.{_≡_}
-use Prim.Native.Nat.{ℕ, _≤_, _<_}
+use Prim.Native.Nat.{ℕ, _^_, _≤_, _<_}
 use lib.IntN.{pos, _-ℤ_}
 use mir.Syntax.{w32, w64}
-use mir.Val.{toZ, SFits}
+use mir.Val.{toZ, SFits, bits, hbits}
 use mir.Facts.{toZ-ofZ, toZ-pos, sfits-toZ, sfits-widen}
 use borrow.Author.Needs.{needs}
 use Rattle.format.proofs.fields.signed.Statement.{statement}
 use Rattle.format.proofs.fields.signed.Tie as tie
 
 -- in the upper half
-upper : (x : ℕ) → 2147483648 ≤ x → x < 4294967296 → pos x -ℤ pos 4294967296 ≡ toZ w32 x
-upper x h k = simp (le-ltb x 2147483648 h, lt-ltb x 4294967296 k)
+upper : (x : ℕ) → 2 ^ hbits w32 ≤ x → x < 2 ^ bits w32 → pos x -ℤ pos (2 ^ bits w32) ≡ toZ w32 x
+upper x h k = simp (le-ltb x (2 ^ hbits w32) h, lt-ltb x (2 ^ bits w32) k)
 
-less : (c : tie.Else1) → toZ w64 (c .before .args .x) -ℤ pos 4294967296 ≡ toZ w32 (c .before .args .x)
+less : (c : tie.Else1) → toZ w64 (c .before .args .x) -ℤ pos (2 ^ bits w32) ≡ toZ w32 (c .before .args .x)
 less c = rw (toZ-pos w64 {n = c .before .args .x} (omega arith)) (upper (c .before .args .x) (omega arith) (omega arith))
 
 fit : (c : tie.Else1) → SFits w32 (toZ w32 (c .before .args .x))

@@ -1,6 +1,6 @@
 -- Two bytes: the low one, then the high one.
 use native.Mathlib.Omega.{arith}
-use Rattle.format.proofs.Numbers.{room, number-split}
+use Rattle.format.proofs.Numbers.{beyond, number-split}
 use borrow.Author.Needs.{needs}
 use Rattle.format.proofs.fields.two_at.Statement.{statement}
 use Rattle.format.proofs.fields.two_at.Tie as tie
@@ -21,7 +21,7 @@ add-result : tie.Need-add-result
 add-result c = search needs
 
 returns : tie.Need-returns
-unfolding room
+unfolding beyond
 returns c = let a = c .before .before .before .args in
     let low = c .before .one-at .ensures in
     let high = c .one-at2 .ensures in

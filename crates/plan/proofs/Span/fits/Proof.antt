@@ -1,42 +1,33 @@
 -- The three tests of the ends, each only where the one before holds.
 use borrow.Author.Needs.{needs}
-use mathlib.Core.Path.{_≡_, sym, _∙_}
-use mathlib.Core.Bool.{true, false}
-use lib.Signed.{leZ}
-use Rattle.plan.specs.Days.{spanFits}
+use Rattle.integers.specs.Hull.{fits}
+use Rattle.integers.proofs.Tests.{and-yes, and-no}
 use Rattle.plan.proofs.Span.fits.Statement.{statement}
 use Rattle.plan.proofs.Span.fits.Tie as tie
 
-until-requires : tie.Need-until-requires
-until-requires c κs = search needs
+not-after-requires : tie.Need-not-after-requires
+not-after-requires c κs = search needs
 
-until-requires-2 : tie.Need-until-requires-2
-until-requires-2 c κs = search needs
+not-after-requires-2 : tie.Need-not-after-requires-2
+not-after-requires-2 c κs = search needs
 
-until-requires-3 : tie.Need-until-requires-3
-until-requires-3 c κs = search needs
+not-after-requires-3 : tie.Need-not-after-requires-3
+not-after-requires-3 c κs = search needs
 
 returns : tie.Need-returns
-unfolding spanFits
+unfolding fits
 returns c =
-    let m = c .before .before in
-    let b = m .before .before in
-    let h = sym (b .until .ensures) ∙ m .before .if1 .taken in
-    let k = sym (m .until2 .ensures) ∙ c .before .if2 .taken in
-    simp (h, k, c .until3 .ensures)
+    let second = c .before .before in
+    let first = second .before .before in
+    and-yes (first .not-after .ensures) (second .before .if1 .taken) (and-yes (second .not-after2 .ensures) (c .before .if2 .taken) (c .not-after3 .ensures))
 
 returns-2 : tie.Need-returns-2
-unfolding spanFits
-returns-2 c =
-    let m = c .before in
-    let b = m .before .before in
-    let h = sym (b .until .ensures) ∙ m .before .if1 .taken in
-    let k = sym (m .until2 .ensures) ∙ c .if2 .left in
-    simp (h, k)
+unfolding fits
+returns-2 c = and-yes (c .before .before .before .not-after .ensures) (c .before .before .if1 .taken) (and-no _ (c .before .not-after2 .ensures) (c .if2 .left))
 
 returns-3 : tie.Need-returns-3
-unfolding spanFits
-returns-3 c = let h = sym (c .before .until .ensures) ∙ c .if1 .left in simp h
+unfolding fits
+returns-3 c = and-no _ (c .before .not-after .ensures) (c .if1 .left)
 
 pub fits-spec : {M : Type 1} → statement M
-fits-spec = tie.close (tie.spec until-requires until-requires-2 until-requires-3 returns returns-2 returns-3)
+fits-spec = tie.close (tie.spec not-after-requires not-after-requires-2 not-after-requires-3 returns returns-2 returns-3)

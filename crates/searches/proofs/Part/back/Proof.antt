@@ -1,10 +1,12 @@
 -- Each test only where the one before holds.
-use mathlib.Core.Path.{_≡_, sym, _∙_}
-use mathlib.Core.Bool.{true}
+use mathlib.Core.Path.{_≡_, refl, sym, _∙_}
+use mathlib.Core.Logic.{⊎-elim}
 use lib.IntN.{_+ℤ_}
 use lib.Signed.{ltZ}
-use Rattle.searches.proofs.Up.{fits-plus}
-use Rattle.searches.proofs.Down.{fits-back}
+use Rattle.integers.specs.Tests.{and}
+use Rattle.integers.proofs.Tests.{and-first, and-yes, and-no}
+use Rattle.searches.proofs.FirstFree.{fits-plus}
+use Rattle.searches.proofs.LastFree.{fits-back}
 use borrow.Author.Needs.{needs}
 use Rattle.searches.proofs.Part.back.Statement.{statement}
 use Rattle.searches.proofs.Part.back.Tie as tie
@@ -18,49 +20,32 @@ plus-requires c κs = let a = c .before .before .before .before .before in fits-
 before-requires-2 : tie.Need-before-requires-2
 before-requires-2 c κs = search needs
 
--- the tests, as the definition has them
-full : (c : tie.Then2) → ltZ (c .before .before .before .before .before .args .self .from .0) (c .before .before .before .before .before .args .self .to .0) ≡ true
-full c = sym (c .before .before2 .ensures) ∙ c .if2 .taken
+-- the second test and the third, joined
+met : (c : tie.Joined2) → let a = c .before .before .before .before .before .args in
+    c .if2 .if3 ≡ and (ltZ (a .self .from .0) (a .self .to .0)) (ltZ (a .self .from .0) (a .v .0 +ℤ a .d .0))
+met c =
+    let b = c .before .before2 in
+    ⊎-elim (λ w. w .3 ∙ and-yes (b .ensures) (w .0 .taken) (rw (w .2 .ensures, w .1 .ensures) refl))
+    (λ w. w .1 ∙ and-no _ (b .ensures) (w .0 .left)) (c .if2 .came)
 
 minus-requires : tie.Need-minus-requires
 minus-requires c κs =
-    let t = c .before .before .before in
-    let a = t .before .before .before .before .before in
-    fits-back (a .args .self) (a .args .d .0) (a .pre .0) (a .pre .1) (full t)
-
-met : (c : tie.After-before3) → c .before3 .result ≡ ltZ (c .before .before .before .before .before .before .before .args .self .from .0) (c .before .before .before .before .before .before .before .args .v .0 +ℤ c .before .before .before .before .before .before .before .args .d .0)
-met c = simp (c .before3 .ensures, c .before .plus .ensures)
+    let j = c .before in
+    let a = j .before .before .before .before .before in
+    fits-back (a .args .self) (a .args .d .0) (a .pre .0) (a .pre .1) (and-first _ _ (sym (met j) ∙ c .if3 .taken))
 
 returns : tie.Need-returns
 returns c =
-    let t = c .before in
-    let h = sym (met (t .before)) ∙ t .if3 .taken in
-    let g = full (t .before .before .before) in
-    simp (c .before .before .before .before .before .before .if1 .taken, g, h, c .minus .ensures)
+    let j = c .before .before in
+    rw (j .before .before .if1 .taken, sym (met j) ∙ c .before .if3 .taken, c .minus .ensures)
 
 returns-2 : tie.Need-returns-2
 returns-2 c =
-    let h = sym (met (c .before)) ∙ c .if3 .left in
-    let g = full (c .before .before .before) in
-    simp (c .before .before .before .before .before .if1 .taken, g, h)
-
-returns-3 : tie.Need-returns-3
-returns-3 c =
-    let g = sym (c .before .before2 .ensures) ∙ c .if2 .left in
-    simp (c .before .before .if1 .taken, g)
-
-returns-4 : tie.Need-returns-4
-returns-4 c = search needs
+    ⊎-elim
+    (λ w.
+    let j : tie.Joined2 = record { before = record { before = record { before = c .before; if1 = w .0 }; before2 = w .1 }; if2 = w .2 } in
+    rw (w .0 .taken, sym (met j) ∙ w .3 .left))
+    (λ w. rw (w .left)) (c .if1 .came)
 
 pub back-spec : {M : Type 1} → statement M
-back-spec =
-    tie.close
-    (tie.spec
-    before-requires
-    plus-requires
-    before-requires-2
-    minus-requires
-    returns
-    returns-2
-    returns-3
-    returns-4)
+back-spec = tie.close (tie.spec before-requires plus-requires before-requires-2 minus-requires returns returns-2)

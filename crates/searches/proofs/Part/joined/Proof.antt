@@ -1,5 +1,6 @@
 -- Both ends, where the part is hit and has days.
 use mathlib.Core.Path.{sym, _∙_}
+use mathlib.Core.Logic.{⊎-elim}
 use borrow.Author.Needs.{needs}
 use Rattle.searches.proofs.Part.joined.Statement.{statement}
 use Rattle.searches.proofs.Part.joined.Tie as tie
@@ -20,14 +21,7 @@ returns c =
     simp (t .before .before .if1 .taken, g, c .before .smaller .ensures, c .larger .ensures)
 
 returns-2 : tie.Need-returns-2
-returns-2 c =
-    let g = sym (c .before .before2 .ensures) ∙ c .if2 .left in
-    simp (c .before .before .if1 .taken, g)
-
-returns-3 : tie.Need-returns-3
-returns-3 c = simp (c .if1 .left)
+returns-2 c = ⊎-elim (λ w. rw (w .0 .taken, sym (w .1 .ensures) ∙ w .2 .left)) (λ w. rw (w .left)) (c .if1 .came)
 
 pub joined-spec : {M : Type 1} → statement M
-joined-spec =
-    tie.close
-    (tie.spec before-requires smaller-requires larger-requires returns returns-2 returns-3)
+joined-spec = tie.close (tie.spec before-requires smaller-requires larger-requires returns returns-2)

@@ -1,12 +1,10 @@
 -- The least room of the part, where it is hit and has days.
-use mathlib.Core.Path.{_≡_, sym, ap, ap₂, _∙_}
+use mathlib.Core.Path.{_≡_, sym, _∙_}
 use mathlib.Core.Bool.{true}
-use lib.IntN.{_-ℤ_}
 use lib.Signed.{ltZ}
 use Rattle.integers.specs.Whole.{larger, smaller}
-use Rattle.plan.specs.declared.Day.{Day}
-use Rattle.plan.specs.Days.{day}
-use Rattle.searches.proofs.Long.{fits-from, fits-to}
+use Rattle.searches.proofs.Durations.{fits-from, fits-to}
+use mathlib.Core.Logic.{⊎-elim}
 use borrow.Author.Needs.{needs}
 use Rattle.searches.proofs.Part.shorter.Statement.{statement}
 use Rattle.searches.proofs.Part.shorter.Tie as tie
@@ -14,7 +12,7 @@ use Rattle.searches.proofs.Part.shorter.Tie as tie
 before-requires : tie.Need-before-requires
 before-requires c κs = search needs
 
-full : (c : tie.Then2) → ltZ (c .before .before .before .before .before .before .before .args .self .from .0) (c .before .before .before .before .before .before .before .args .self .to .0) ≡ true
+full : (c : tie.Then2) → let a = c .before .before .before .before .before .before .before .args in ltZ (a .self .from .0) (a .self .to .0) ≡ true
 full c = sym (c .before .before2 .ensures) ∙ c .if2 .taken
 
 minus-requires : tie.Need-minus-requires
@@ -40,36 +38,12 @@ returns : tie.Need-returns
 returns c =
     let m = c .before .before .before in
     let t = m .before .before in
-    let a = t .before .before .before .before .before .before .before .args in
-    let g = full t in
-    let x = a .self .from .0 -ℤ a .w .from .0 in
-    let y = a .w .to .0 -ℤ a .self .to .0 in
-    let l : c .before .before .larger .result ≡ day (larger x y) =
-    c .before .before .larger .ensures ∙ ap₂ (λ (u v : Day). day (larger (u .0) (v .0))) (m .before .minus .ensures) (m .minus2 .ensures) in
-    let n : c .before .larger2 .result ≡ day (larger (a .half .0) (larger x y)) =
-    c .before .larger2 .ensures ∙ ap (λ (u : Day). day (larger (a .half .0) (u .0))) l in
-    let e : c .smaller .result ≡ day (smaller (a .r .0) (larger (a .half .0) (larger x y))) =
-    c .smaller .ensures ∙ ap (λ (u : Day). day (smaller (a .r .0) (u .0))) n in
-    rw (t .before .before .if1 .taken, g) (ap (λ (u : Day). u .0) e)
+    rw (t .before .before .if1 .taken, full t)
+    (rw (c .smaller .ensures, c .before .larger2 .ensures, c .before .before .larger .ensures, m .before .minus .ensures, m .minus2 .ensures))
 
 returns-2 : tie.Need-returns-2
-returns-2 c =
-    let g = sym (c .before .before2 .ensures) ∙ c .if2 .left in
-    simp (c .before .before .if1 .taken, g)
-
-returns-3 : tie.Need-returns-3
-returns-3 c = search needs
+returns-2 c = ⊎-elim (λ w. rw (w .0 .taken, sym (w .1 .ensures) ∙ w .2 .left)) (λ w. rw (w .left)) (c .if1 .came)
 
 pub shorter-spec : {M : Type 1} → statement M
 shorter-spec =
-    tie.close
-    (tie.spec
-    before-requires
-    minus-requires
-    minus-requires-2
-    larger-requires
-    larger-requires-2
-    smaller-requires
-    returns
-    returns-2
-    returns-3)
+    tie.close (tie.spec before-requires minus-requires minus-requires-2 larger-requires larger-requires-2 smaller-requires returns returns-2)

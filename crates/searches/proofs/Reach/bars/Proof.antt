@@ -1,6 +1,8 @@
 -- The slack is tested first.
-use mathlib.Core.Path.{sym, _∙_}
+use mathlib.Core.Path.{ap}
+use mathlib.Core.Bool.{not}
 use borrow.Author.Needs.{needs}
+use Rattle.integers.proofs.Tests.{and-yes, and-no}
 use Rattle.searches.proofs.Reach.bars.Statement.{statement}
 use Rattle.searches.proofs.Reach.bars.Tie as tie
 
@@ -11,12 +13,10 @@ holds-requires : tie.Need-holds-requires
 holds-requires c κs = search needs
 
 returns : tie.Need-returns
-returns c =
-    let h = sym (c .before .before .below .ensures) ∙ c .before .if1 .taken in
-    simp (h, c .holds .ensures)
+returns c = and-yes (c .before .before .below .ensures) (c .before .if1 .taken) (ap not (c .holds .ensures))
 
 returns-2 : tie.Need-returns-2
-returns-2 c = let h = sym (c .before .below .ensures) ∙ c .if1 .left in simp h
+returns-2 c = and-no _ (c .before .below .ensures) (c .if1 .left)
 
 pub bars-spec : {M : Type 1} → statement M
 bars-spec = tie.close (tie.spec below-requires holds-requires returns returns-2)

@@ -1,0 +1,93 @@
+-- The header, then what follows it.
+use native.Mathlib.Omega.{arith}
+use mathlib.Core.Path.{_≡_, sym, _∙_}
+use Rattle.format.specs.declared.HeaderAnswer.{HeaderAnswer}
+use Rattle.format.specs.Reading.{readHeader, readLent}
+use Rattle.format.proofs.Files.{Few, header-few}
+use borrow.Author.Needs.{needs}
+use Rattle.file.proofs.read_lent.Statement.{statement}
+use Rattle.file.proofs.read_lent.Tie as tie
+
+-- once the header was answered
+module _ (c : tie.After-known-told2) where
+  header : readHeader (c .before .before .before .before .before .args .file .now) ≡ HeaderAnswer.Counts (c .before .first2 .given .0 .0)
+  header = sym (c .before .before .before .read-header .ensures) ∙ c .before .first2 .given .1
+
+  counts : Few (c .before .first2 .given .0 .0)
+  counts = header-few (c .before .before .before .before .before .args .file .now) header
+
+read-header-requires : tie.Need-read-header-requires
+read-header-requires c κs = search needs
+
+enum-known-first : tie.Need-enum-known-first
+enum-known-first c = search needs
+
+enum-known-first-2 : tie.Need-enum-known-first-2
+enum-known-first-2 c = search needs
+
+read-into-requires : tie.Need-read-into-requires
+read-into-requires c κs =
+    let w = counts (c .before .before) in
+    (omega (arith, w .resources), omega (arith, w .tasks))
+
+enum-known-rest : tie.Need-enum-known-rest
+enum-known-rest c = search needs
+
+enum-told : tie.Need-enum-told
+enum-told c = search needs
+
+sense-from-requires : tie.Need-sense-from-requires
+sense-from-requires c κs = search needs
+
+returns : tie.Need-returns
+unfolding readLent
+returns c = (rw (sym (c .before .before .before .read-header .ensures) ∙ c .before .first .given .1), tt)
+
+same-length : tie.Need-same-length
+same-length c = search needs
+
+same-length-2 : tie.Need-same-length-2
+same-length-2 c = search needs
+
+returns-2 : tie.Need-returns-2
+unfolding readLent
+returns-2 c =
+    let into = c .before .before .before .before .before in
+    (rw (header (into .before .before .before)) (rw (c .before .rest .given .1) at (into .read-into .ensures)), tt)
+
+same-length-3 : tie.Need-same-length-3
+same-length-3 c = search needs
+
+same-length-4 : tie.Need-same-length-4
+same-length-4 c = search needs
+
+returns-3 : tie.Need-returns-3
+unfolding readLent
+returns-3 c =
+    let into = c .before .before .before .before .before in
+    let k = into .before .before .before in
+    let w = counts k in
+    let p = k .before .before .before .before .before .pre in
+    let kept = into .read-into .kept .1 .1 .1 .1 in (
+      rw (header k, c .sense-from .ensures) (rw (c .before .enum-told .given .1) at (into .read-into .ensures)),
+      (omega (arith, w .resources, p, kept .0), omega (arith, w .tasks, p, kept .1 .0)),
+    )
+
+pub read-lent-spec : {M : Type 1} → statement M
+read-lent-spec =
+    tie.close
+    (tie.spec
+    read-header-requires
+    enum-known-first
+    enum-known-first-2
+    read-into-requires
+    enum-known-rest
+    enum-told
+    sense-from-requires
+    returns
+    same-length
+    same-length-2
+    returns-2
+    same-length-3
+    same-length-4
+    returns-3)

@@ -1,0 +1,2 @@
+-- A call on the plan as the steps work on it.
+pub mod Senses

@@ -1,0 +1,68 @@
+-- At least nothing is to do; at most every limit and every task is negated.
+use mathlib.Core.Path.{sym, ap, _∙_}
+use mathlib.Core.List.{List}
+use Rattle.integers.proofs.Lists.{each-so}
+use Rattle.plan.specs.declared.Resource.{Resource}
+use Rattle.plan.specs.declared.Sense.{Sense}
+use Rattle.plan.specs.declared.Task.{Task}
+use Rattle.rules.proofs.Checks.{Accepts, accepts}
+use Rattle.rows.specs.View.{tasksOf, resourcesOf, atLeast}
+use Rattle.negation.specs.Senses.{tasksFor, resourcesFor}
+use borrow.Author.Needs.{needs}
+use Rattle.negation.proofs.negate_for.Statement.{statement}
+use Rattle.negation.proofs.negate_for.Tie as tie
+
+abbrev qs : tie.Start → List Resource
+qs c = resourcesOf (c .args .q .now)
+
+abbrev ts : tie.Start → List Task
+ts c = tasksOf (c .args .s .now)
+
+entered : (c : tie.Start) → Accepts (atLeast (c .args .q .now)) (ts c)
+entered c = accepts (atLeast (c .args .q .now)) (ts c) (c .pre)
+
+enum-told : tie.Need-enum-told
+enum-told c = search needs
+
+enum-told-2 : tie.Need-enum-told-2
+enum-told-2 c = search needs
+
+negate-resources-requires : tie.Need-negate-resources-requires
+negate-resources-requires c κs = entered (c .before .before .before) .limits
+
+negate-tasks-requires : tie.Need-negate-tasks-requires
+negate-tasks-requires c κs = each-so (λ t k. k .ranges) (entered (c .before .before .before .before .before .before) .tasks)
+
+returns : tie.Need-returns
+returns c =
+    let b = c .before .before in
+    let at-least = sym (c .enum-told .given .1) in
+    (ap (λ (x : Sense). resourcesFor x (qs b)) at-least, ap (λ (x : Sense). tasksFor x (ts b)) at-least)
+
+same-length : tie.Need-same-length
+same-length c = search needs
+
+same-length-2 : tie.Need-same-length-2
+same-length-2 c = search needs
+
+returns-2 : tie.Need-returns-2
+returns-2 c =
+    let n = c .before .before .before .before in
+    let b = n .before .before .before .before in
+    let at-most = sym (n .before .before .enum-told2 .given .1) in (
+      n .negate-resources .ensures ∙ ap (λ (x : Sense). resourcesFor x (qs b)) at-most,
+      c .before .negate-tasks .ensures ∙ ap (λ (x : Sense). tasksFor x (ts b)) at-most,
+    )
+
+pub negate-for-spec : {M : Type 1} → statement M
+negate-for-spec =
+    tie.close
+    (tie.spec
+    enum-told
+    enum-told-2
+    negate-resources-requires
+    negate-tasks-requires
+    returns
+    same-length
+    same-length-2
+    returns-2)

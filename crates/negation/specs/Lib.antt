@@ -1,0 +1,2 @@
+-- A plan by its sense, as the steps work on it.
+pub mod Senses

@@ -1,0 +1,56 @@
+//! The numbers that document 01 gives, each against its one home, and a plan file byte by byte.
+
+mod support;
+
+use second::file::{read, unchecked_bytes, LONGEST, PL, RS, TK};
+use second::plan::{DAYS, DURATIONS, MOST_RESOURCES, MOST_TASKS, POWERS};
+use second::program::READ_AT_MOST;
+use second::{Plan, Refusal, Resource, Sense};
+use support::{to, wide};
+
+#[test]
+fn counts_ends_and_lengths() {
+    assert_eq!((MOST_RESOURCES, MOST_TASKS), (16, 256));
+    assert_eq!(DAYS, to(-100_000, 100_000));
+    assert_eq!(DURATIONS, to(0, 10_000));
+    assert_eq!(POWERS, to(-1_000_000, 1_000_000));
+    assert_eq!(MOST_TASKS as i64 * POWERS.high, 256_000_000);
+    assert_eq!([PL.length, RS.length, TK.length], [6, 10, 36]);
+    assert_eq!((LONGEST, READ_AT_MOST), (9_382, 9_383));
+    assert_eq!(Refusal::LAST_NUMBER, 12);
+}
+
+#[test]
+fn a_file_byte_by_byte() {
+    let plan = Plan {
+        sense: Sense::AtLeast,
+        resources: vec![Resource { id: -2, limit: 258 }],
+        tasks: vec![wide(1, to(-1, 0), to(1, 10_000), to(2, 3), to(-258, 259))],
+    };
+    let mut bytes = b"PL\x01\x01\x01\x00".to_vec();
+    bytes.extend(b"RS\xFE\xFF\xFF\xFF\x02\x01\x00\x00");
+    bytes.extend(b"TK\x01\x00");
+    bytes.extend(b"\xFF\xFF\xFF\xFF\x00\x00\x00\x00");
+    bytes.extend(b"\x01\x00\x00\x00\x10\x27\x00\x00");
+    bytes.extend(b"\x02\x00\x00\x00\x03\x00\x00\x00");
+    bytes.extend(b"\xFE\xFE\xFF\xFF\x03\x01\x00\x00");
+    assert_eq!(unchecked_bytes(&plan), bytes);
+    assert_eq!(read(&bytes), Ok(plan));
+}
+
+#[test]
+fn a_plan_in_the_other_sense() {
+    let task = |height| wide(3, DAYS, DURATIONS, DAYS, height);
+    let plan = Plan {
+        sense: Sense::AtMost,
+        resources: vec![Resource { id: 4, limit: 5 }, Resource { id: -4, limit: -6 }],
+        tasks: vec![task(to(-1, 3)), task(to(0, 0))],
+    };
+    let negated = Plan {
+        sense: Sense::AtLeast,
+        resources: vec![Resource { id: 4, limit: -5 }, Resource { id: -4, limit: 6 }],
+        tasks: vec![task(to(-3, 1)), task(to(0, 0))],
+    };
+    assert_eq!(plan.negated(), negated);
+    assert_eq!(negated.negated(), plan);
+}
