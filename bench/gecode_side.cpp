@@ -59,16 +59,16 @@ class PlanSpace : public Gecode::Space {
       if (p) duration_number[k] = t.duration.low; else duration[k] = variable(*this, t.duration);
       if (u) height_number[k] = t.height.low; else height[k] = variable(*this, t.height);
     }
-    post_sums(p);
+    post_sums(n - plan.stand_ins, p);
     if (m) with_machines(plan, machine_number, p, u);
     else with_machines(plan, machine, p, u);
   }
   PlanSpace(PlanSpace &other) : Gecode::Space(other) {}
   Gecode::Space *copy() override { return new PlanSpace(*this); }
 
-  // The tasks as Gecode left them; what was a number stays.
+  // As many of the first tasks as there is room for, as Gecode left them; what was a number stays.
   void read(std::vector<Task> &tasks) const {
-    for (int k = 0; k < origin.size(); k++) {
+    for (int k = 0; k < static_cast<int>(tasks.size()); k++) {
       Task &t = tasks[k];
       t.origin = ends(origin[k]), t.end = ends(end[k]);
       if (duration.size() > 0) t.duration = ends(duration[k]);
@@ -87,9 +87,9 @@ class PlanSpace : public Gecode::Space {
   }
 
  private:
-  // origin + duration = end, which the constraint itself does not post
-  void post_sums(bool durations_fixed) {
-    for (int k = 0; k < origin.size(); k++) {
+  // origin + duration = end of the plan's own tasks, which the constraint itself does not post
+  void post_sums(int own, bool durations_fixed) {
+    for (int k = 0; k < own; k++) {
       if (durations_fixed) Gecode::linear(*this, IntArgs({1, -1}), IntVarArgs({end[k], origin[k]}), Gecode::IRT_EQ, duration_number[k]);
       else Gecode::linear(*this, IntArgs({1, 1, -1}), IntVarArgs({origin[k], duration[k], end[k]}), Gecode::IRT_EQ, 0);
     }

@@ -1,4 +1,5 @@
-// Gecode's side: the same plan as a space with one `cumulatives` constraint and origin + duration = end for each task.
+// Gecode's side: the same plan as a space with one `cumulatives` constraint and origin + duration = end for each task. Its resources have one
+// limit each: every plan here comes without bands, which with_stand_ins has turned into fixed tasks.
 #pragma once
 #include "plans.hpp"
 
@@ -12,7 +13,7 @@ struct GecodeLeft {
 };
 
 // The whole job, from a plan in memory to the narrowed tasks in memory: variables and posting, propagation to the fixpoint, reading the
-// ends back, releasing the space.
+// ends back, releasing the space. `narrowed` has as many places as the plan has own tasks: those that stand in for bands are not read.
 void gecode_job(const Plan &plan, std::vector<Task> &narrowed);
 
 // Nanoseconds of its first two parts.

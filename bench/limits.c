@@ -18,7 +18,8 @@ struct work {
     double microseconds;
 };
 
-static double now(void) {
+/* not inlined: its own values would count as stack of the calls */
+static __attribute__((noinline)) double now(void) {
     struct timespec t;
     clock_gettime(CLOCK_MONOTONIC, &t);
     return (double)t.tv_sec * 1e6 + (double)t.tv_nsec / 1e3;
@@ -26,12 +27,14 @@ static double now(void) {
 
 static void *work(void *given) {
     struct work *w = given;
+    w->microseconds = -now(); /* timed inside the thread, whose start may wait for a processor */
     for (unsigned k = 0; k < w->calls; k++) switch (w->call) {
         case 'c': w->answer = gristwaltz_check(w->file, w->length); break;
         case 'b': w->answer = gristwaltz_balance(w->file, w->length, w->out, sizeof w->out); break;
         case 'r': w->answer = gristwaltz_resource_step(w->file, w->length, 0, w->out, sizeof w->out); break;
         default: w->answer = gristwaltz_settle(w->file, w->length, w->out, sizeof w->out);
         }
+    w->microseconds += now();
     return NULL;
 }
 
@@ -45,27 +48,29 @@ static size_t touched(struct work *w, unsigned calls) {
     pthread_attr_init(&attributes);
     pthread_attr_setstack(&attributes, stack, STACK);
     w->calls = calls;
-    double start = now();
     if (pthread_create(&thread, &attributes, work, w)) exit(2);
     pthread_join(thread, NULL);
-    w->microseconds = now() - start;
     size_t clean = 0;
     while (clean < STACK && stack[clean] == PAINT) clean++;
     free(stack);
     return STACK - clean;
 }
 
-/* The best of a few rounds, in microseconds a call. */
-static double time_of(struct work *w, char call) {
-    w->call = call;
-    touched(w, 1);
-    unsigned calls = w->microseconds < 300 ? 5000 : 10;
+/* The best of a few rounds of so many calls, in microseconds a round. */
+static double best_of(struct work *w, unsigned calls) {
     double best = 1e18;
     for (int round = 0; round < 5; round++) {
         touched(w, calls);
         if (w->microseconds < best) best = w->microseconds;
     }
-    return best / calls;
+    return best;
+}
+
+/* Microseconds a call: many calls a round, unless one call takes long. */
+static double time_of(struct work *w, char call) {
+    w->call = call;
+    unsigned calls = best_of(w, 1) < 300 ? 5000 : 10;
+    return best_of(w, calls) / calls;
 }
 
 /* The most that one of the four calls takes; settling comes last, so its answer stays. */
@@ -86,6 +91,7 @@ int main(int count, char **names) {
         FILE *f = fopen(names[k], "rb");
         if (!f) return 2;
         w.length = fread(w.file, 1, sizeof w.file, f);
+        if (fgetc(f) != EOF) return fprintf(stderr, "limits: %s is longer than the header's longest file\n", names[k]), 2;
         fclose(f);
         const char *name = strrchr(names[k], '/');
         double check = time_of(&w, 'c'), balance = time_of(&w, 'b'), step = time_of(&w, 'r'), settle = time_of(&w, 's');

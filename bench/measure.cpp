@@ -1,18 +1,23 @@
 // Measures settling by the engine and by Gecode on the same plans in one run, turn about, and prints one line a plan.
 //
-//   measure all SEED SECONDS            every plan of every size; SECONDS is the time for all
-//   measure ours SEED SIZE NUMBER       one plan, inside the function `measured_ours` (for counting instructions)
-//   measure gecode SEED SIZE NUMBER     the same, inside `measured_gecode`
+//   measure all SEED SECONDS             every plan of every size; SECONDS is the time for all
+//   measure ours SEED SIZE NUMBERS       each plan of the list (as 640,641) once, inside the function `measured_ours` (for counting
+//                                        instructions); prints all passes together, and how many plans had no plan
+//   measure ours SEED SIZE NUMBERS BANDS [level]     the same of stepped plans with so many bands; level: bands that change nothing
+//   measure gecode SEED SIZE NUMBERS     the same, inside `measured_gecode`
+//   measure bands                        says whether the engine takes plans with bands
 #include "../include/gristwaltz.h"
 #ifdef WITH_GECODE
 #include "gecode_side.hpp"
 #endif
 #include "plans.hpp"
+#include "stand_ins.hpp"
 
 #include <algorithm>
 #include <chrono>
 #include <cstdio>
 #include <cstdlib>
+#include <sstream>
 #include <string>
 
 namespace {
@@ -23,6 +28,7 @@ using Clock = std::chrono::steady_clock;
 constexpr int sizes[] = {10, 50, 100, 256};
 constexpr int most_turns = 25, least_turns = 3;
 constexpr double shortest_timing = 10000;  // ns: shorter calls are repeated inside one timing
+constexpr std::size_t most_tasks = 256;
 
 double since(Clock::time_point start) { return std::chrono::duration<double, std::nano>(Clock::now() - start).count(); }
 
@@ -35,12 +41,13 @@ long values(const std::vector<Task> &tasks) {
   return sum;
 }
 
-// One line of the measurements. Times in nanoseconds, the best of all turns; -1 where Gecode is not there.
+// One line of the measurements. Times in nanoseconds, the best of all turns; -1 where Gecode is not there, or the plan has no bands.
 struct Line {
   double ours = -1, gecode = -1, posted = -1, propagation = -1;  // gecode: the whole job; posted: setup and propagation
-  std::uint64_t answer = 0;
+  double bare = -1, level = -1;                                  // ours on the plan without its bands, and with bands that change nothing
+  std::uint64_t answer = 0, bare_answer = 0;
   long ours_removed = -1, gecode_removed = -1, holes = -1;
-  int gecode_no_plan = -1, turns = 0;
+  int gecode_no_plan = -1, turns = 0, compared = -1;  // compared: ours with stand-ins gave the same (0: they are too many tasks for ours)
 };
 
 // Nanoseconds of one run of a job, after one run that is not timed: neither side pays for what the other left in the caches. A short job is
@@ -93,39 +100,90 @@ void gecode_result(const Plan &, Line &) {}
 constexpr bool with_gecode = false;
 #endif
 
+// A measurement of what is not what it should be is worth nothing.
+void demand(bool holds, const char *what, const Plan &plan) {
+  if (holds) return;
+  std::fprintf(stderr, "measure: %s (%s, %zu tasks, %zu bands)\n", what, plan.kind.c_str(), plan.tasks.size(), plan.bands.size());
+  std::exit(1);
+}
+
+bool same_tasks(const Task &a, const Task &b) {
+  auto same = [](Range x, Range y) { return x.low == y.low && x.high == y.high; };
+  return a.set == b.set && same(a.origin, b.origin) && same(a.duration, b.duration) && same(a.end, b.end) && same(a.height, b.height);
+}
+
+// Both plans settle to the same first tasks after the same passes, or neither settles.
+bool same_settling(const Plan &one, const Plan &other) {
+  Ours here(one), there(other);
+  std::uint64_t answer = here.settle();
+  if (answer != there.settle()) return false;
+  if (gristwaltz_refusal(answer) != 0) return true;
+  std::vector<Task> some = tasks_of(here.out), others = tasks_of(there.out);
+  return std::equal(some.begin(), some.begin() + std::min(some.size(), others.size()), others.begin(), same_tasks);
+}
+
+// What the bands of a plan cost: ours on the plan as it is, without them, and with bands that change nothing, in turn.
+void measure_bands(const Plan &plan, const Plan &given, Line &line) {
+  Plan none = without_bands(plan), unchanged = with_level_bands(plan);
+  demand(same_settling(none, unchanged), "bands at their resource's own limit change what settling leaves", plan);
+  line.compared = given.tasks.size() <= most_tasks;
+  demand(!line.compared || same_settling(plan, given), "settling with stand-ins leaves something else", plan);
+  Ours ours(plan), bare(none), level(unchanged);
+  line.bare_answer = bare.settle();
+  auto timed = [](Ours &one) { return Timed([&one] { one.settle(); }); };
+  auto all = timed(ours), without = timed(bare), with_level = timed(level);
+  for (int k = 0; k < line.turns; k++) best(line.ours, all.time()), best(line.bare, without.time()), best(line.level, with_level.time());
+}
+
 Line measured(const Plan &plan, double budget) {
   Line line;
   Ours ours(plan);
+  Plan given = with_stand_ins(plan);
   std::vector<Task> narrowed = plan.tasks;
   auto start = Clock::now();
   line.answer = ours.settle();
+  demand(gristwaltz_refusal(line.answer) == 0 || gristwaltz_refusal(line.answer) == 7, "the plan does not pass the entry checks", plan);
   if (gristwaltz_refusal(line.answer) == 0) line.ours_removed = values(plan.tasks) - values(tasks_of(ours.out));
-  gecode_result(plan, line);
+  gecode_result(given, line);
   Timed settling([&ours] { ours.settle(); });
-  Timed gecode([&plan, &narrowed] { gecode_whole(plan, narrowed); });
+  Timed gecode([&given, &narrowed] { gecode_whole(given, narrowed); });
   while (line.turns < least_turns || (line.turns < most_turns && since(start) < budget)) {
     bool first = line.turns++ % 2 == 0;
     if (first) best(line.ours, settling.time());
     if (with_gecode) best(line.gecode, gecode.time());
-    gecode_in_parts(plan, line);
+    gecode_in_parts(given, line);
     if (!first) best(line.ours, settling.time());
   }
+  if (!plan.bands.empty()) measure_bands(plan, given, line);
   return line;
 }
 
+// An archive from before request 1 refuses every file with bands.
+bool takes_bands() {
+  std::vector<std::uint8_t> file = file_of({true, {0}, {}, "", {{0, 0, 0}}});
+  return gristwaltz_check(file.data(), file.size()) == 0;
+}
+
+void print_line(int size, int number, const Plan &plan, const Line &line) {
+  std::printf("%d %d %s %s %u %u %ld %.0f %.0f %.0f %.0f %ld %d %ld %ld %d", size, number, plan.kind.c_str(), plan.at_least ? "least" : "most",
+              gristwaltz_refusal(line.answer), gristwaltz_passes(line.answer), values(plan.tasks), line.ours, line.gecode, line.posted,
+              line.propagation, line.ours_removed, line.gecode_no_plan, line.gecode_removed, line.holes, line.turns);
+  std::printf(" %zu %.0f %.0f %u %u %d\n", plan.bands.size(), line.bare, line.level, gristwaltz_refusal(line.bare_answer),
+              gristwaltz_passes(line.bare_answer), line.compared);
+}
+
 void measure_all(std::uint64_t seed, double seconds) {
-  std::printf("size number kind sense refusal passes values ours gecode posted propagation ours_removed gecode_no_plan gecode_removed holes turns\n");
+  std::printf("size number kind sense refusal passes values ours gecode posted propagation ours_removed gecode_no_plan gecode_removed holes turns "
+              "bands bare level bare_refusal bare_passes compared\n");
   double left = seconds * 1e9;
+  int plans = takes_bands() ? plan_count() : plain_count();
   int sizes_left = static_cast<int>(std::size(sizes));
   for (int size : sizes) {
     auto start = Clock::now();
     double share = left / sizes_left--;
-    for (int k = 0; k < plan_count(); k++) {
+    for (int k = 0; k < plans; k++) {
       Plan plan = plan_of(size, seed, k);
-      Line line = measured(plan, (share - since(start)) / (plan_count() - k));
-      std::printf("%d %d %s %s %u %u %ld %.0f %.0f %.0f %.0f %ld %d %ld %ld %d\n", size, k, plan.kind.c_str(), plan.at_least ? "least" : "most",
-                  gristwaltz_refusal(line.answer), gristwaltz_passes(line.answer), values(plan.tasks), line.ours, line.gecode, line.posted,
-                  line.propagation, line.ours_removed, line.gecode_no_plan, line.gecode_removed, line.holes, line.turns);
+      print_line(size, k, plan, measured(plan, (share - since(start)) / (plans - k)));
     }
     std::fflush(stdout);
     left -= since(start);
@@ -142,21 +200,55 @@ extern "C" __attribute__((noinline)) void measured_gecode(const Plan &plan, std:
   gecode_whole(plan, narrowed);
 }
 
-int main(int count, char **words) {
-  std::string what = count > 1 ? words[1] : "";
-  if (what == "all" && count == 4) {
-    measure_all(std::strtoull(words[2], nullptr, 10), std::atof(words[3]));
-    return 0;
-  }
-  if ((what == "ours" || what == "gecode") && count == 5) {
-    Plan plan = plan_of(std::atoi(words[3]), std::strtoull(words[2], nullptr, 10), std::atoi(words[4]));
+namespace {
+
+// Each plan once, inside the function that is counted. Once before that, so that what a program does once only (finding library functions,
+// first memory) is not counted.
+void count_ours(const std::vector<Plan> &plans) {
+  unsigned passes = 0, no_plan = 0;
+  for (const Plan &plan : plans) {
     Ours ours(plan);
-    std::vector<Task> narrowed = plan.tasks;
-    // once before, so that what a program does once only (finding library functions, first memory) is not counted
-    if (what == "ours") ours.settle(), measured_ours(ours.file, ours.out);
-    else gecode_whole(plan, narrowed), measured_gecode(plan, narrowed);
-    return 0;
+    ours.settle();
+    std::uint64_t answer = measured_ours(ours.file, ours.out);
+    demand(gristwaltz_refusal(answer) == 0 || gristwaltz_refusal(answer) == 7, "the plan does not pass the entry checks", plan);
+    passes += gristwaltz_passes(answer), no_plan += gristwaltz_refusal(answer) == 7;
   }
-  std::fprintf(stderr, "usage: measure all SEED SECONDS | measure ours|gecode SEED SIZE NUMBER\n");
-  return 2;
+  std::printf("%u %u\n", passes, no_plan);
+}
+
+void count_gecode(const std::vector<Plan> &plans) {
+  for (const Plan &plan : plans) {
+    Plan given = with_stand_ins(plan);
+    std::vector<Task> narrowed = plan.tasks;
+    gecode_whole(given, narrowed), measured_gecode(given, narrowed);
+  }
+}
+
+// words: SEED SIZE NUMBERS [BANDS [level]]
+std::vector<Plan> plans_named(const std::vector<std::string> &words) {
+  std::uint64_t seed = std::stoull(words[0]);
+  int size = std::stoi(words[1]);
+  std::vector<Plan> plans;
+  std::istringstream numbers(words[2]);
+  for (std::string number; std::getline(numbers, number, ',');) {
+    Plan plan = words.size() > 3 ? stepped_plan_of(size, seed, std::stoi(number), std::stoi(words[3])) : plan_of(size, seed, std::stoi(number));
+    plans.push_back(words.size() > 4 ? with_level_bands(plan) : plan);
+  }
+  return plans;
+}
+
+}  // namespace
+
+int main(int count, char **given) {
+  std::vector<std::string> words(given + std::min(count, 2), given + count);
+  std::string what = count > 1 ? given[1] : "";
+  if (what == "all" && words.size() == 2) measure_all(std::stoull(words[0]), std::stod(words[1]));
+  else if (what == "ours" && words.size() >= 3 && words.size() <= 5) count_ours(plans_named(words));
+  else if (what == "gecode" && words.size() == 3) count_gecode(plans_named(words));
+  else if (what == "bands" && words.empty()) std::puts(takes_bands() ? "yes" : "no");
+  else {
+    std::fprintf(stderr, "usage: measure all SEED SECONDS | measure ours|gecode SEED SIZE NUMBERS [BANDS [level]] | measure bands\n");
+    return 2;
+  }
+  return 0;
 }

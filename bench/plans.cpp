@@ -8,6 +8,8 @@ namespace {
 
 constexpr int most_resources = 16;
 constexpr int service_plans = 150;  // of either sense
+constexpr int season_plans = 100;
+constexpr int stepped_plans = 50;  // of either sense
 constexpr int year = 365;
 
 // The splitmix64 recipe.
@@ -59,9 +61,11 @@ class Levels {
     for (int d = origin - first_; d < origin - first_ + days; d++) level_[r][d] += height, covered_[r][d] = true;
   }
   // the least level on a covered day, or `otherwise`
-  int least(int r, int otherwise) const {
-    int least = 1 << 29;
-    for (std::size_t d = 0; d < level_[r].size(); d++)
+  int least(int r, int otherwise) const { return least(r, first_, first_ + static_cast<int>(level_[r].size()), otherwise); }
+  // the same on the days from .. to - 1
+  int least(int r, int from, int to, int otherwise) const {
+    int least = 1 << 29, last = std::min(to - first_, static_cast<int>(level_[r].size()));
+    for (int d = std::max(from - first_, 0); d < last; d++)
       if (covered_[r][d]) least = std::min(least, level_[r][d]);
     return least == 1 << 29 ? otherwise : least;
   }
@@ -86,20 +90,38 @@ void schedule(Random &random, Levels &levels, const Task &t) {
   levels.place(best_r, best_origin, days, height);
 }
 
-// Each limit becomes what a schedule inside the ranges just keeps, or a little less; one plan in sixteen asks for one more than that.
-void set_limits(Random &random, Plan &plan) {
+// One schedule inside the ranges, and how much less than it keeps is asked for: nothing or a little, but one more in one plan of sixteen.
+struct Kept {
+  Levels levels;
+  int less;
+};
+
+Kept kept(Random &random, const Plan &plan) {
   std::vector<Task> tasks = plan.tasks;
   if (!plan.at_least)
     for (Task &t : tasks) t.height = negated(t.height);
   std::stable_sort(tasks.begin(), tasks.end(), [](const Task &a, const Task &b) { return a.height.high > b.height.high; });
   Levels levels(tasks);
   for (const Task &t : tasks) schedule(random, levels, t);
-  int less = random.one_in(16) ? -1 : random.within(0, 2);
+  return {levels, random.one_in(16) ? -1 : random.within(0, 2)};
+}
+
+// Each limit becomes what the schedule asks for.
+Kept set_limits(Random &random, Plan &plan) {
+  Kept asked = kept(random, plan);
   for (int r = 0; r < static_cast<int>(plan.limits.size()); r++) {
     int limit = plan.at_least ? plan.limits[r] : -plan.limits[r];
-    limit = levels.least(r, limit + less) - less;
+    limit = asked.levels.least(r, limit + asked.less) - asked.less;
     plan.limits[r] = plan.at_least ? limit : -limit;
   }
+  return asked;
+}
+
+// What the schedule asks for on the days from .. to - 1, a little less drawn anew; the resource's own limit where it covers none of them.
+int limit_on(Random &random, const Plan &plan, const Kept &asked, int r, int from, int to) {
+  int own = plan.at_least ? plan.limits[r] : -plan.limits[r], less = asked.less < 0 ? asked.less : random.within(0, 2);
+  int limit = asked.levels.least(r, from, to, own + less) - less;
+  return plan.at_least ? limit : -limit;
 }
 
 // ---- report T2001:11, Table 2
@@ -241,6 +263,53 @@ Plan feeder_plan(Random &random, int size) {
   return plan;
 }
 
+// ---- service plans with bands
+
+// The resource that most tasks may be placed on.
+int busiest(const Plan &plan) {
+  int best = 0, most = -1;
+  for (int r = 0; r < static_cast<int>(plan.limits.size()); r++) {
+    int count = static_cast<int>(std::count_if(plan.tasks.begin(), plan.tasks.end(), [r](const Task &t) { return t.set >> r & 1; }));
+    if (count > most) best = r, most = count;
+  }
+  return best;
+}
+
+// So many first days spread over these days; where there are fewer days than bands, one a day and on beyond them.
+std::vector<int> spread_days(Random &random, Days days, int bands) {
+  std::vector<int> firsts;
+  int count = std::max(days.to - days.from, bands);
+  for (int k = 0; k < bands; k++) firsts.push_back(days.from + k * count / bands + random.within(0, count / bands - 1));
+  return firsts;
+}
+
+// Crane season: on one feeder the level is higher from one date and back from the next, once to three times a year.
+Plan season_plan(Random &random, int size) {
+  Plan plan = feeder_plan(random, size);
+  plan.kind = "season";
+  Kept asked = set_limits(random, plan);
+  int r = random.within(0, static_cast<int>(plan.limits.size()) - 1), seasons = random.within(1, 3);
+  for (int k = 0; k < seasons; k++) {
+    int first = year * k / seasons, half = year / seasons / 2;
+    int from = first + random.within(1, half - 1), to = first + half + random.within(0, half - 1);
+    plan.bands.push_back({r, from, limit_on(random, plan, asked, r, from, to)});
+    plan.bands.push_back({r, to, plan.limits[r]});
+  }
+  return plan;
+}
+
+// Another level every few days: bands spread over the days that tasks may cover on the busiest resource.
+Plan stepped_plan(Random &random, int size, bool at_least, int bands) {
+  Plan plan = at_least ? feeder_plan(random, size) : crew_plan(random, size);
+  plan.kind = "stepped";
+  Kept asked = set_limits(random, plan);
+  int r = busiest(plan);
+  std::vector<int> firsts = spread_days(random, days_on(plan, r), bands);
+  for (int k = 0; k < bands; k++)
+    plan.bands.push_back({r, firsts[k], limit_on(random, plan, asked, r, firsts[k], k + 1 < bands ? firsts[k + 1] : 1 << 29)});
+  return plan;
+}
+
 void put(std::vector<std::uint8_t> &file, std::uint32_t value, int bytes) {
   for (int k = 0; k < bytes; k++) file.push_back(static_cast<std::uint8_t>(value >> 8 * k));
 }
@@ -253,18 +322,45 @@ int number_at(const std::vector<std::uint8_t> &file, std::size_t at) {
 
 }  // namespace
 
-int plan_count() { return 2 * patterns + 2 * service_plans; }
+int plain_count() { return 2 * patterns + 2 * service_plans; }
+int plan_count() { return plain_count() + season_plans + 2 * stepped_plans; }
 
 Plan plan_of(int tasks, std::uint64_t seed, int number) {
+  if (number >= plain_count() + season_plans) return stepped_plan_of(tasks, seed, number, most_bands);
   Random random(seed, tasks, number);
+  if (number >= plain_count()) return season_plan(random, tasks);
   if (number < 2 * patterns) return table_plan(random, tasks, pattern(number / 2), number % 2 == 1);
   return number % 2 == 0 ? crew_plan(random, tasks) : feeder_plan(random, tasks);
+}
+
+Plan stepped_plan_of(int tasks, std::uint64_t seed, int number, int bands) {
+  Random random(seed, tasks, number);
+  return stepped_plan(random, tasks, number % 2 == 1, bands);
+}
+
+Days days_on(const Plan &plan, int r) {
+  Days days{1 << 29, -(1 << 29)};
+  for (const Task &t : plan.tasks)
+    if (t.set >> r & 1) days.from = std::min(days.from, t.origin.low), days.to = std::max(days.to, t.end.high);
+  return days;
+}
+
+Plan with_level_bands(Plan plan) {
+  for (Band &band : plan.bands) band.limit = plan.limits[band.place];
+  return plan;
+}
+
+Plan without_bands(Plan plan) {
+  plan.bands.clear();
+  return plan;
 }
 
 std::vector<std::uint8_t> file_of(const Plan &plan) {
   std::vector<std::uint8_t> file = {'P', 'L', plan.at_least};
   put(file, plan.limits.size(), 1), put(file, plan.tasks.size(), 2);
   for (std::size_t r = 0; r < plan.limits.size(); r++) file.insert(file.end(), {'R', 'S'}), put(file, r + 1, 4), put(file, plan.limits[r], 4);
+  for (const Band &band : plan.bands)
+    file.insert(file.end(), {'L', 'B'}), put(file, band.place, 2), put(file, band.first, 4), put(file, band.limit, 4);
   for (const Task &t : plan.tasks) {
     file.insert(file.end(), {'T', 'K'}), put(file, t.set, 2);
     for (Range range : {t.origin, t.duration, t.end, t.height}) put(file, range.low, 4), put(file, range.high, 4);
@@ -275,7 +371,9 @@ std::vector<std::uint8_t> file_of(const Plan &plan) {
 std::vector<Task> tasks_of(const std::vector<std::uint8_t> &file) {
   std::vector<Task> tasks;
   auto range = [&file](std::size_t at) { return Range{number_at(file, at), number_at(file, at + 4)}; };
-  for (std::size_t at = 6 + 10u * file[3]; at < file.size(); at += 36)
+  std::size_t first = 6 + 10u * file[3];
+  while (first < file.size() && file[first] == 'L') first += 12;
+  for (std::size_t at = first; at < file.size(); at += 36)
     tasks.push_back({static_cast<unsigned>(file[at + 2] | file[at + 3] << 8), range(at + 4), range(at + 12), range(at + 20), range(at + 28)});
   return tasks;
 }

@@ -12,6 +12,7 @@ import sys
 
 SIZES = (10, 50, 100, 256)
 AIM = 0.15
+BANDS_AIM = 2  # times the time without bands
 HERE = os.path.dirname(os.path.abspath(__file__))
 
 
@@ -45,8 +46,8 @@ def spread(values):
     return part(values, 0.5), part(values, 0.9), max(values)
 
 
-def ratios(plans, against):
-    return [plan.ours / getattr(plan, against) for plan in plans]
+def ratios(plans, against, side="ours"):
+    return [getattr(plan, side) / getattr(plan, against) for plan in plans]
 
 
 # ---- the text
@@ -77,6 +78,20 @@ def processor():
     return "unknown processor"
 
 
+PLAIN_KINDS = {
+    ("table", "most"): "Table 2, at most",
+    ("table", "least"): "Table 2, at least",
+    ("crews", "most"): "crews, at most",
+    ("feeders", "least"): "feeders, at least",
+}
+STEPPED_KINDS = {("stepped", "most"): "64 bands, crews", ("stepped", "least"): "64 bands, feeders"}
+BANDED_KINDS = {("season", "least"): "crane season, feeders", **STEPPED_KINDS}
+
+
+def of_kind(plans, size, kind):
+    return [plan for plan in plans if (plan.size, (plan.kind, plan.sense)) == (size, kind)]
+
+
 def head(archive, seed, peers, plans):
     with open(archive, "rb") as data:
         digest = hashlib.sha256(data.read()).hexdigest()[:16]
@@ -88,7 +103,10 @@ def head(archive, seed, peers, plans):
     if "target/native" in shown:
         text += "          the engine's module in this machine's code; the archive that is handed out is for x86-64\n"
     text += f"compiler  {said_by(['g++', '--version'])}\n"
-    text += f"plans     seed {seed}, {len(plans) // len(SIZES)} of each size: Table 2's 576 patterns and 300 service plans\n"
+    plain = [plan for plan in plans if not plan.bands]
+    more = (len(plans) - len(plain)) // len(SIZES)
+    text += f"plans     seed {seed}, {len(plain) // len(SIZES)} of each size: Table 2's 576 patterns and 300 service plans"
+    text += f"; {more} with bands apart\n" if more else "\n"
     text += f"turns     {min(plan.turns for plan in plans):.0f} to {max(plan.turns for plan in plans):.0f} a plan, each side's best is taken\n"
     text += """
 Ours is one call of gristwaltz_settle: the plan file in memory is read and checked, settled, and the settled plan's file written.
@@ -117,17 +135,42 @@ def ratio_table(plans, against):
     return text
 
 
-def kind_table(plans):
+def kind_table(plans, names):
     widths = (8, 22, 8, 10, 10, 10, 12, 12)
     text = row(("tasks", "plans", "", "median", "90 %", "worst", "ours us", "Gecode us"), widths)
-    names = {("table", "most"): "Table 2, at most", ("table", "least"): "Table 2, at least", ("crews", "most"): "crews, at most", ("feeders", "least"): "feeders, at least"}
     for size in SIZES:
-        for (kind, sense), name in names.items():
-            group = [plan for plan in plans if (plan.size, plan.kind, plan.sense) == (size, kind, sense)]
+        for kind, name in names.items():
+            group = of_kind(plans, size, kind)
             cells = [f"{value:.3f}" for value in spread(ratios(group, "gecode"))]
             medians = [f"{part([getattr(plan, side) for plan in group], 0.5) / 1000:.2f}" for side in ("ours", "gecode")]
             text += row((size, name, len(group), *cells, *medians), widths)
     return text
+
+
+def cost_table(plans):
+    """Ours beside ours on the same plan without its bands: with bands that change nothing, and with the plan's own."""
+    widths = (8, 23, 6, 10, 11, 10, 10, 8, 8, 10, 8, 8, 9, 8)
+    text = row(("tasks", "plans", "", "us none", "unchanged", "changed", "unchanged", "/ none", "", "changed", "/ none", "", "passes", ""), widths)
+    text += row(("", "", "", "median", "median", "median", "median", "90 %", "worst", "median", "90 %", "worst", "none", "changed"), widths)
+    for size in SIZES:
+        for kind, name in BANDED_KINDS.items():
+            group = of_kind(plans, size, kind)
+            times = [f"{part([getattr(plan, side) for plan in group], 0.5) / 1000:.2f}" for side in ("bare", "level", "ours")]
+            cells = [f"{value:.2f}" for side in ("level", "ours") for value in spread(ratios(group, "bare", side))]
+            settled = [plan for plan in group if plan.settled() and plan.bare_refusal == 0]
+            passes = [f"{sum(getattr(plan, side) for plan in settled) / max(1, len(settled)):.2f}" for side in ("bare_passes", "passes")]
+            text += row((size, name, len(group), *times, *cells, *passes), widths)
+    return text
+
+
+def cost_text(plans):
+    compared = sum(plan.compared == 1 for plan in plans)
+    return f"""None: the same tasks and limits without the bands. Unchanged: as many bands on the same days, each at its resource's own limit, so that
+settling leaves the same after the same passes: what reading and sweeping the bands costs. Changed: the plan as it is, whose bands ask for
+more, so that settling may take more passes. Passes are the mean of the plans that settle.
+Gecode gets fixed tasks that stand in for the changed levels, made before its time begins (bench/stand_ins.cpp says why that is exact).
+{compared} of {len(plans)} plans with bands were also settled by ours with these tasks for the bands: the same ranges after the same passes.
+"""
 
 
 # Table 2's characteristics: how many ways each has, in the order in which bench/plans.cpp counts them, and their names.
@@ -215,53 +258,74 @@ def no_plan_table(plans):
     return text
 
 
-def instruction_table(path):
+def instruction_table(path, plans):
     with open(path) as lines:
         rows = [line.split() for line in lines if len(line.split()) >= 3]
     if not rows:
         return "not counted: valgrind is not here\n"
-    widths = (8, 10, 12, 12, 10)
-    text = row(("tasks", "plan", "ours", "Gecode", "ratio"), widths)
+    kinds = {plan.number: {**PLAIN_KINDS, **BANDED_KINDS}[plan.kind, plan.sense] for plan in plans}
+    widths = (8, 10, 12, 12, 10, 24)
+    text = row(("tasks", "plan", "ours", "Gecode", "ratio", ""), widths)
     for words in rows:
         size, number, ours = words[:3]
         theirs = words[3] if len(words) > 3 else "-"
         ratio = f"{int(ours) / int(theirs):.3f}" if theirs != "-" else "-"
-        text += row((size, number, ours, theirs, ratio), widths)
+        text += row((size, number, ours, theirs, ratio, kinds[float(number)]), widths)
     return text
 
 
-def verdict(plans):
+def verdict(plans, which=""):
     medians = {size: part(ratios([plan for plan in plans if plan.size == size], "gecode"), 0.5) for size in SIZES}
     missed = [str(size) for size in SIZES if medians[size] > AIM]
     slower = [plan for plan in plans if plan.ours > plan.gecode]
-    text = f"median at most {AIM} of Gecode's time at every size: " + ("reached\n" if not missed else f"NOT reached with {', '.join(missed)} tasks\n")
-    text += "no plan slower than Gecode: " + ("reached\n" if not slower else f"NOT reached, {len(slower)} of {len(plans)} are slower\n")
+    text = f"{which}median at most {AIM} of Gecode's time at every size: " + ("reached\n" if not missed else f"NOT reached with {', '.join(missed)} tasks\n")
+    text += f"{which}no plan slower than Gecode: " + ("reached\n" if not slower else f"NOT reached, {len(slower)} of {len(plans)} are slower\n")
     for plan in slower[:10]:
         text += f"  {plan.size:.0f} tasks, plan {plan.number:.0f} ({plan.kind}, at {plan.sense}): {plan.ours / plan.gecode:.2f}\n"
     return text
 
 
-def results(plans, instructions, archive, seed):
+def bands_verdict(plans):
+    text = ""
+    for side, name in (("level", "unchanged levels"), ("ours", "changed levels")):
+        medians = [part(ratios(of_kind(plans, size, kind), "bare", side), 0.5) for size in SIZES for kind in STEPPED_KINDS]
+        text += f"with 64 bands, {name}: median at most {BANDS_AIM} times the time of none at every size, crews and feeders: "
+        text += ("reached" if max(medians) <= BANDS_AIM else "NOT reached") + f", {min(medians):.2f} to {max(medians):.2f}\n"
+    return text
+
+
+def bands_results(plans, peers):
+    text = heading("With bands: ours beside the same plans without") + cost_table(plans) + cost_text(plans)
+    if peers:
+        text += heading("With bands: ours / Gecode's whole job") + kind_table(plans, BANDED_KINDS)
+        text += heading("With bands: narrowing, by ends of ranges and sets") + removed_table(plans)
+        text += heading("With bands: no plan found") + no_plan_table(plans)
+    return text
+
+
+def results(all_plans, instructions, archive, seed):
+    plans, banded = [plan for plan in all_plans if not plan.bands], [plan for plan in all_plans if plan.bands]
     peers = plans[0].gecode >= 0
     sides = [("ours", "ours")]
     if peers:
         sides += [("gecode", "Gecode, whole job"), ("posted", "Gecode, setup and propagation"), ("propagation", "Gecode, propagation alone")]
-    text = head(archive, seed, peers, plans)
+    text = head(archive, seed, peers, all_plans) + heading("To reach")
+    text += (verdict(plans) if peers else "") + (verdict(banded, "with bands, ") if peers and banded else "")
+    text += bands_verdict(banded) if banded else "with bands: not measured, the archive refuses them\n"
     if peers:
-        text += heading("To reach") + verdict(plans)
         text += heading("Ratio: ours / Gecode's whole job") + ratio_table(plans, "gecode")
         text += heading("Ratio: ours / Gecode's setup and propagation") + ratio_table(plans, "posted")
         text += heading("Ratio: ours, file read and written / Gecode's propagation alone") + ratio_table(plans, "propagation")
     text += heading("Times") + time_table(plans, sides)
     if peers:
-        text += heading("By kind of plan (whole job)") + kind_table(plans)
+        text += heading("By kind of plan (whole job)") + kind_table(plans, PLAIN_KINDS)
         text += heading("By the ways of Table 2 (whole job, median)") + pattern_table(plans)
     text += heading("Growth of the median with the tasks") + growth(plans, sides)
-    text += heading("Instructions (callgrind), whole job, second call") + instruction_table(instructions)
+    text += heading("Instructions (callgrind), whole job, second call") + instruction_table(instructions, all_plans)
     if peers:
         text += heading("Narrowing, by ends of ranges and sets") + removed_table(plans)
         text += heading("No plan found") + no_plan_table(plans)
-    return text
+    return text + (bands_results(banded, peers) if banded else "")
 
 
 # ---- the picture
@@ -389,7 +453,7 @@ def main():
     text = results(plans, os.path.join(folder, "instructions.txt"), archive, seed)
     with open(os.path.join(HERE, "results.txt"), "w") as out:
         out.write(text)
-    draw(plans, os.path.join(HERE, "ratios.svg"))
+    draw([plan for plan in plans if not plan.bands], os.path.join(HERE, "ratios.svg"))
 
 
 if __name__ == "__main__":

@@ -1,7 +1,7 @@
 /* Gristwaltz: narrow a service plan until nothing more follows, or say that no plan exists. Link libgristwaltz.a (`rt staticlib gristwaltz`),
  * which asks for `memset` and no other function.
  *
- * A plan is a plan file in memory (at most 9,382 bytes). Every call takes any bytes, keeps no state, uses no heap and may run on any number
+ * A plan is a plan file in memory (at most 10,150 bytes). Every call takes any bytes, keeps no state, uses no heap and may run on any number
  * of threads at once. `file` and `out` point to as many bytes as their lengths say, are not NULL, and do not overlap.
  *
  * Every call answers one number: the refusal number times 2^32 plus the place, or, where the refusal number is 0, the pass count (0 for
@@ -9,9 +9,10 @@
  * `out` is as it was.
  *
  * Refusals, in the order in which they are looked for: 8 and 9 of the first record, 1 (over 256 tasks), 2 (no resource, or over 16), 8 and
- * 9 of the other records and of what is left over, 3 (an identifier repeats), 4 (a limit outside its ends), then for each task in turn 5
- * (a range) and 6 (its set), then 12 (no such resource), 10 (`out` shorter than the file), 7 (no plan). The place is a byte of the file for
- * 8 and 9, a resource for 3 and 4, a task for 5 and 6, else 0. */
+ * 9 of the other records and of what is left over, with 13 for a 65th band where it is met whole, 3 (an identifier repeats), 4 (a limit outside its
+ * ends), 13 (a band out of order, beyond its ends, or of no resource), then for each task in turn 5 (a range) and 6 (its set), then 12 (no such
+ * resource), 10 (`out` shorter than the file), 7 (no plan). The place is a byte of the file for 8 and 9, a resource for 3 and 4, a band for
+ * 13, a task for 5 and 6, else 0. */
 #ifndef GRISTWALTZ_H
 #define GRISTWALTZ_H
 
@@ -23,7 +24,7 @@ extern "C" {
 #endif
 
 /* The bytes of the longest plan file: room in `out` for any. */
-#define GRISTWALTZ_LONGEST_FILE 9382
+#define GRISTWALTZ_LONGEST_FILE 10150
 
 /* Settles the plan and writes the settled plan's file to `out`: the answer is the number of passes, or the refusal. */
 uint64_t gristwaltz_settle(const uint8_t *file, size_t file_len, uint8_t *out, size_t out_len);

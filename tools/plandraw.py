@@ -13,6 +13,7 @@ INK, MUTED, FAINT, GRID, PAPER, LANE = "#1d2733", "#5d6977", "#9aa5b1", "#e3e8ee
 MARK, ALARM = "#b4500b", "#c0202c"
 LEVEL, LEVEL_SURE, LEVEL_WRONG = "#e1e5ea", "#b5bdc7", "#eda9ae"
 FONT = "'Helvetica Neue', Helvetica, Arial, 'DejaVu Sans', sans-serif"
+BOLD = 1.12  # bold letters are this much wider
 
 MARGIN = 32
 LABELS = 86
@@ -22,6 +23,8 @@ ROW = 26
 TALLEST = 30000
 BAR = 14
 LANE_HEAD = 34
+HEAD_LINE = 18
+LIMITS = 16
 STRIP = 46
 LANE_GAP = 18
 AXIS = 30
@@ -47,23 +50,36 @@ class Scale:
 
 @dataclass(frozen=True)
 class Lane:
-    """A lane: the resource's place (None for tasks on no listed resource), its tasks and its top."""
+    """A lane: the resource's place (None for tasks on no listed resource), its tasks, its top, the lines of its heading and its limits."""
 
     place: object
     tasks: tuple
     top: float
+    heading: tuple = ("",)
+    limits: tuple = ()
 
     def rows_top(self):
         """Where the rows of tasks begin."""
-        return self.top + LANE_HEAD
+        return self.top + LANE_HEAD + HEAD_LINE * (len(self.heading) - 1)
 
     def rows(self):
         """How many rows the lane has; an empty one keeps a row for its remark."""
         return max(1, len(self.tasks))
 
+    def limits_top(self):
+        """Where the numbers of limits that change begin."""
+        return self.rows_top() + ROW * self.rows() + 6
+
     def strip_top(self):
         """Where the strip of the level begins."""
-        return self.rows_top() + ROW * self.rows() + 6
+        return self.limits_top() + (LIMITS if self.numbered() else 0)
+
+    def numbered(self):
+        """The stretches of a limit that changes which are wide enough for its number."""
+        if len(self.limits) < 2 or not self.tasks:
+            return []
+        day = DAYS / (self.limits[-1][1] - self.limits[0][0])
+        return [step for step in self.limits if width_of(str(step[2]), 11) + 4 <= day * (step[1] - step[0])]
 
     def bottom(self):
         """Where the lane ends."""
@@ -209,6 +225,32 @@ def add_span(changes, span, amounts):
             changes[day] = tuple(a + sign * b for a, b in zip(old, amounts))
 
 
+def limit_on(plan, place, day):
+    """The limit of a resource on a day: that of its last band whose first day is not after it, else its own."""
+    begun = [band.limit for _, band in plan.bands_of(place) if band.first <= day]
+    return begun[-1] if begun else plan.resources[place].limit
+
+
+def limit_steps(plan, place, first, last):
+    """The limits of the days drawn, as (first day, day after, limit); a band that changes nothing makes no step."""
+    starts = {band.first for _, band in plan.bands_of(place) if first < band.first < last}
+    steps, days = [], sorted({first, last} | starts)
+    for day, after in zip(days, days[1:]):
+        limit = limit_on(plan, place, day)
+        if steps and steps[-1][2] == limit:
+            day = steps.pop()[0]
+        steps.append((day, after, limit))
+    return tuple(steps)
+
+
+def against_limits(steps, limits):
+    """The steps of a level cut where the limit changes: (first day, day after, level, whether a task is sure, limit)."""
+    for first, last, level, checked in steps:
+        for begins, ends, limit in limits:
+            if max(first, begins) < min(last, ends):
+                yield max(first, begins), min(last, ends), level, checked, limit
+
+
 def breaks(level, limit, sense):
     """Whether a level is on the wrong side of the limit."""
     return level < limit if sense == 1 else level > limit
@@ -217,18 +259,30 @@ def breaks(level, limit, sense):
 # Layout
 
 
-def make_lanes(plan, top):
+def make_lanes(plan, top, right):
     """The lanes from top to bottom; tasks on no listed resource get one of their own."""
-    lanes = []
+    lanes, days = [], day_span(plan)
     for place in range(len(plan.resources)):
         tasks = tuple(k for k, task in enumerate(plan.tasks) if task.on(place))
-        lanes.append(Lane(place, tasks, top))
+        heading = wrap(limits_told(plan, place), right - heading_left(plan.resources[place]), 12, "  ·  ")
+        lanes.append(Lane(place, tasks, top, tuple(heading), limit_steps(plan, place, *days)))
         top = lanes[-1].bottom() + LANE_GAP
     listed = (1 << len(plan.resources)) - 1
     lost = tuple(k for k, task in enumerate(plan.tasks) if not task.places or task.places & ~listed)
     if lost:
         lanes.append(Lane(None, lost, top))
     return lanes
+
+
+def limits_told(plan, place):
+    """A resource's place and its limits, from which day which: the pieces of its heading."""
+    own = f"{sense_words(plan.sense)} {plan.resources[place].limit}"
+    return [f"place {place}", own, *(f"{band.limit} from day {band.first}" for _, band in plan.bands_of(place))]
+
+
+def heading_left(resource):
+    """Where the limits stand in a lane's heading, after the resource's name."""
+    return MARGIN + width_of(f"Resource {resource.identifier}", BOLD * 14) + 8
 
 
 def column_widths(tasks):
@@ -373,10 +427,9 @@ def row(panel, plan, lane, task_place, y):
 
 def strip(panels, lane, plan):
     """The strips of the level below a lane's rows, on one scale in all panels."""
-    limit, sense = plan.resources[lane.place].limit, plan.sense
-    known = sense < len(SENSES)
-    steps = [level_steps(panel.tasks, lane.place, sense) if known else [] for panel in panels]
-    levels = [0, limit] + [step[2] for found in steps for step in found]
+    known = plan.sense < len(SENSES)
+    steps = [level_steps(panel.tasks, lane.place, plan.sense) if known else [] for panel in panels]
+    levels = [0] + [step[2] for found in (*steps, lane.limits) for step in found]
     low, high = min(levels), max(levels)
     if low == high:
         high += 1
@@ -384,24 +437,42 @@ def strip(panels, lane, plan):
     def y(level):
         return lane.strip_top() + 4 + (STRIP - 8) * (high - level) / (high - low)
 
-    return "".join(strip_half(panel, found, limit, sense, y) for panel, found in zip(panels, steps))
+    return "".join(strip_half(panel, found, lane, plan.sense, y) for panel, found in zip(panels, steps))
 
 
-def strip_half(panel, steps, limit, sense, y):
-    """One panel's strip: the best level left, and the limit."""
+def strip_half(panel, steps, lane, sense, y):
+    """One panel's strip: the best level left, and the limit of each day."""
     scale, parts = panel.scale, []
-    for first, last, level, checked in steps:
+    for first, last, level, checked, limit in against_limits(steps, lane.limits):
         wrong = checked and breaks(level, limit, sense)
         fill = LEVEL_WRONG if wrong else LEVEL_SURE if checked else LEVEL
         top, low = min(y(level), y(0)), max(y(level), y(0))
         x, wide = scale.x(first), scale.x(last) - scale.x(first)
         parts.append(box(x, top, wide, low - top, fill=fill))
         parts.append(line(x, y(level), x + wide, y(level), ALARM if wrong else INK, stroke_width=1.6))
-    left, right = scale.left, scale.left + DAYS
-    parts.append(line(left, y(0), right, y(0), FAINT, stroke_width=1))
-    parts.append(line(left, y(limit), right, y(limit), ALARM, stroke_width=1.2, stroke_dasharray="6 3"))
-    parts.append(text(right + 8, y(limit) + 4, f"limit {limit}", 11, ALARM))
+    parts.append(line(scale.left, y(0), scale.left + DAYS, y(0), FAINT, stroke_width=1))
+    parts.append(limit_line([(scale.x(first), scale.x(last), y(limit)) for first, last, limit in lane.limits]))
+    parts += limit_labels(scale, lane, y)
     return element("g", "".join(parts), class_="level")
+
+
+def limit_line(steps):
+    """The line of the limit, from (left, right, height on the page) of each stretch of days."""
+    path = f"M{number(steps[0][0])} {number(steps[0][2])}"
+    path += "".join(f" V{number(y)} H{number(right)}" for _, right, y in steps)
+    return element("path", d=path, class_="limit", fill="none", stroke=ALARM, stroke_width=1.2, stroke_dasharray="6 3")
+
+
+def limit_labels(scale, lane, y):
+    """A limit that stays is told beside its line; limits that change stand above their days, where these have room."""
+    if len(lane.limits) == 1:
+        limit = lane.limits[0][2]
+        return [text(scale.left + DAYS + 8, y(limit) + 4, f"limit {limit}", 11, ALARM)]
+    parts = []
+    for first, last, limit in lane.numbered():
+        middle = (scale.x(first) + scale.x(last)) / 2
+        parts.append(text(middle, lane.limits_top() + 11, str(limit), 11, ALARM, "middle"))
+    return parts
 
 
 def lane_svg(panels, lane, plan, answer):
@@ -419,23 +490,34 @@ def lane_svg(panels, lane, plan, answer):
         parts.append(row_label(task_place, y, answer))
         parts += [row(panel, plan, lane, task_place, y) for panel in panels]
     if lane.place is not None and lane.tasks:
+        if lane.numbered():
+            parts.append(text(MARGIN, lane.limits_top() + 11, "limit", 11, ALARM))
         parts.append(text(MARGIN, lane.strip_top() + STRIP / 2 + 4, "level", 11, MUTED))
         parts.append(strip(panels, lane, plan))
     return element("g", "".join(parts), class_="lane")
 
 
 def lane_heading(lane, plan, answer):
-    """A lane's resource with its level, and the heads of the columns' rows."""
+    """A lane's resource with its limits, in as many lines as these need."""
     y = lane.top + 22
     if lane.place is None:
         return text(MARGIN, y, "On no listed resource", 14, ALARM, weight="bold")
     resource = plan.resources[lane.place]
-    wrong = REFUSALS.get(answer.refusal, ("",))[0] == "resource" and answer.place == lane.place
-    name = f"Resource {resource.identifier}"
-    level = f"place {lane.place}  ·  {sense_words(plan.sense)} {resource.limit}"
-    more = MARGIN + width_of(name, 14.5) + 12
-    heading = text(MARGIN, y, name, 14, ALARM if wrong else INK, weight="bold")
-    return heading + text(more, y, level, 12, ALARM if wrong else MUTED)
+    wrong = resource_meant(plan, answer) == lane.place
+    # of a refused band the words below the title name which it is: its resource's other bands are not wrong
+    told = ALARM if wrong and REFUSALS[answer.refusal][0] == "resource" else MUTED
+    parts = [text(MARGIN, y, f"Resource {resource.identifier}", 14, ALARM if wrong else INK, weight="bold")]
+    for k, words in enumerate(lane.heading):
+        parts.append(text(heading_left(resource), y + HEAD_LINE * k, words, 12, told))
+    return "".join(parts)
+
+
+def resource_meant(plan, answer):
+    """The place of the resource that a refusal is about, by itself or by its band, or None."""
+    kind = REFUSALS.get(answer.refusal, ("",))[0]
+    if kind == "band" and answer.place < len(plan.bands):
+        return plan.bands[answer.place].place
+    return answer.place if kind == "resource" else None
 
 
 def row_label(place, y, answer):
@@ -488,8 +570,10 @@ def legend_entries(plan, settled):
         entries.append((lambda x, y: no_day(x + 13, y, colour), "covers no day"))
     if plan.sense < len(SENSES):
         entries.append((level_sign, f"{best[plan.sense]} (darker: a task is sure)"))
-    limit = lambda x, y: line(x, y + BAR / 2, x + 26, y + BAR / 2, ALARM, stroke_width=1.2, stroke_dasharray="6 3")
-    entries.append((limit, "limit"))
+    if plan.bands:
+        entries.append((lambda x, y: limit_line([(x, x + 13, y + 11), (x + 13, x + 26, y + 3)]), "limit of the day"))
+    else:
+        entries.append((lambda x, y: limit_line([(x, x + 26, y + BAR / 2)]), "limit"))
     return entries
 
 
@@ -512,21 +596,21 @@ def legend(plan, settled, y, right):
     return element("g", "".join(parts), class_="legend"), y - top + LEGEND
 
 
-def wrap(words, room, size):
-    """A sentence broken into lines that fit the room."""
-    lines = [""]
-    for word in words.split(" "):
-        longer = f"{lines[-1]} {word}".strip()
-        if width_of(longer, size) > room and lines[-1]:
-            lines.append(word)
-        else:
+def wrap(pieces, room, size, glue=" "):
+    """Pieces of text, as the words of a sentence, joined into lines that fit the room."""
+    lines = []
+    for piece in pieces:
+        longer = f"{lines[-1]}{glue}{piece}" if lines else piece
+        if lines and width_of(longer, size) <= room:
             lines[-1] = longer
+        else:
+            lines.append(piece)
     return lines
 
 
 def banner(answer, y, right):
     """The refusal's words, and their height."""
-    lines = wrap(refusal_words(answer), right - MARGIN - 12, 13)
+    lines = wrap(refusal_words(answer).split(" "), right - MARGIN - 12, BOLD * 13)
     high = 16 + 18 * len(lines)
     parts = [box(MARGIN - 12, y, right - MARGIN + 24, high, rx=6, fill=ALARM, fill_opacity=0.1)]
     parts.append(box(MARGIN - 12, y, 4, high, fill=ALARM))
@@ -563,7 +647,7 @@ def drawing(plan, answer, title):
     parts.append(part)
     y += high + 14 + AXIS
     parts += [axis(panel, y, bool(plan.tasks)) for panel in panels]
-    lanes = make_lanes(plan, y + 12)
+    lanes = make_lanes(plan, y + 12, right)
     parts += [lane_svg(panels, lane, plan, answer) for lane in lanes]
     bottom = (lanes[-1].bottom() if lanes else y) + MARGIN
     return whole(parts, right + MARGIN, bottom, title)

@@ -4,7 +4,7 @@ import re
 import subprocess
 from dataclasses import dataclass
 
-from planwords import RANGES, PlanError, count, sense_words, set_words, task_from_numbers, task_words
+from planwords import RANGES, PlanError, band_words, count, resource_words, sense_words, set_words, task_from_numbers, task_words
 
 REFUSALS = {
     1: ("", "more than 256 tasks"),
@@ -17,9 +17,13 @@ REFUSALS = {
     8: ("byte", "in a file, not the mark that is due, or a sense byte above 1"),
     9: ("byte", "in a file, cut short, or bytes left over"),
     10: ("", "output buffer shorter than the file"),
-    11: ("", "a list lent to the reader is shorter than the file's count"),
+    11: ("", "a list lent to the reader is shorter than the file's count, or has no room for a band"),
     12: ("", "a resource step names a place not in the list"),
+    13: ("band", "a band out of order, beyond its ends, naming no resource, or a 65th"),
 }
+
+# What a band may be: one of so many, a day and a limit between minus this and this
+MOST_BANDS, MOST_DAY, MOST_POWER = 64, 100_000, 1_000_000
 
 
 @dataclass(frozen=True)
@@ -123,14 +127,29 @@ def table_line(row, widths, right):
 
 def headline(plan):
     """The plan's sense and counts in a few words."""
-    resources, tasks = count(len(plan.resources), "resource"), count(len(plan.tasks), "task")
-    return f"{sense_words(plan.sense)}, {resources}, {tasks}"
+    counts = [count(len(plan.resources), "resource"), count(len(plan.tasks), "task")]
+    if plan.bands:
+        counts.insert(1, count(len(plan.bands), "band"))
+    return ", ".join([sense_words(plan.sense), *counts])
 
 
 def resource_table(plan):
-    """The resources, each with its limit."""
-    rows = [[str(k), str(r.identifier), str(r.limit)] for k, r in enumerate(plan.resources)]
-    return table(["place", "resource", f"limit ({sense_words(plan.sense)})"], rows, {0, 1, 2})
+    """The resources, each with its limit and, below it, the limits that its bands set."""
+    heads = ["place", "resource", f"limit ({sense_words(plan.sense)})"]
+    if not plan.bands:
+        return table(heads, [[str(k), str(r.identifier), str(r.limit)] for k, r in enumerate(plan.resources)], {0, 1, 2})
+    rows = []
+    for place, resource in enumerate(plan.resources):
+        rows.append([str(place), str(resource.identifier), str(resource.limit), "", ""])
+        rows += [["", "", *band_cells(*found)] for found in plan.bands_of(place)]
+    lost = [(k, band) for k, band in enumerate(plan.bands) if band.place >= len(plan.resources)]
+    rows += [[str(band.place), "none", *band_cells(k, band)] for k, band in lost]
+    return table([*heads, "from day", "band"], rows, {0, 1, 2, 3, 4})
+
+
+def band_cells(place, band):
+    """A band's limit, its first day, and its place in the list, by which a refusal names it."""
+    return [str(band.limit), str(band.first), str(place)]
 
 
 def task_table(cells):
@@ -177,13 +196,33 @@ def narrowed_line(names):
 
 
 def refused_text(plan, answer, name):
-    """The refusal in words, with the line it is about if the plan is known."""
+    """The refusal in words, with the lines it is about if the plan is known."""
     lines = [f"{name}: {headline(plan)}"] if plan else [f"{name}:"]
     lines.append(refusal_words(answer))
-    kind = REFUSALS[answer.refusal][0]
-    if plan and kind == "resource" and answer.place < len(plan.resources):
-        resource = plan.resources[answer.place]
-        lines.append(f"  resource {resource.identifier} {resource.limit}")
-    if plan and kind == "task" and answer.place < len(plan.tasks):
-        lines.append(f"  {task_words(plan.tasks[answer.place])}")
+    lines += [f"  {words}" for words in (lines_meant(plan, answer) if plan else ())]
     return "".join(line + "\n" for line in lines)
+
+
+def band_fault(plan, place):
+    """What is wrong with a band, in a line: one too many, a place, a day, a limit, or the one that it has to follow."""
+    band = plan.bands[place]
+    if place >= MOST_BANDS:
+        return [f"there are {len(plan.bands)} bands, at most {MOST_BANDS} are allowed"]
+    if band.place >= len(plan.resources):
+        return [f"no resource has place {band.place}: there {'is' if len(plan.resources) == 1 else 'are'} {len(plan.resources)}"]
+    for what, value, most in (("day", band.first, MOST_DAY), ("limit", band.limit, MOST_POWER)):
+        if abs(value) > most:
+            return [f"{what} {value} is outside -{most}..{most}"]
+    return [f"not after the band before it: {band_words(plan.bands[place - 1])}"] if place else []
+
+
+def lines_meant(plan, answer):
+    """The lines of a plan in words that a refusal is about: a resource comes with its bands, a band with what is wrong with it."""
+    kind, place = REFUSALS[answer.refusal][0], answer.place
+    if kind == "resource" and place < len(plan.resources):
+        return [resource_words(plan.resources[place]), *(band_words(band) for _, band in plan.bands_of(place))]
+    if kind == "band" and place < len(plan.bands):
+        return [band_words(plan.bands[place]), *band_fault(plan, place)]
+    if kind == "task" and place < len(plan.tasks):
+        return [task_words(plan.tasks[place])]
+    return []

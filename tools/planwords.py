@@ -6,10 +6,13 @@ from dataclasses import dataclass
 
 PLAN_RECORD = struct.Struct("<2sBBH")
 RESOURCE_RECORD = struct.Struct("<2sii")
+BAND_RECORD = struct.Struct("<2sHii")
 TASK_RECORD = struct.Struct("<2sH8i")
+MARKS = {PLAN_RECORD: b"PL", RESOURCE_RECORD: b"RS", BAND_RECORD: b"LB", TASK_RECORD: b"TK"}
 
 MOST_RESOURCES = 255
 MOST_TASKS = 65535
+LAST_PLACE = 65535
 SET_BITS = 16
 RANGES = ("origin", "duration", "end", "height")
 SENSES = ("at most", "at least")
@@ -36,9 +39,18 @@ class Range:
 
 @dataclass(frozen=True)
 class Resource:
-    """A resource: its identifier and its limit."""
+    """A resource: its identifier, and its limit on the days before its first band."""
 
     identifier: int
+    limit: int
+
+
+@dataclass(frozen=True)
+class Band:
+    """A band: the limit of the resource at this place from a first day on, until its next band."""
+
+    place: int
+    first: int
     limit: int
 
 
@@ -63,7 +75,12 @@ class Plan:
 
     sense: int
     resources: tuple
+    bands: tuple
     tasks: tuple
+
+    def bands_of(self, place):
+        """The bands of the resource at this place, each with its own place in the list."""
+        return [(k, band) for k, band in enumerate(self.bands) if band.place == place]
 
 
 # Bytes
@@ -74,6 +91,8 @@ def to_bytes(plan):
     parts = [PLAN_RECORD.pack(b"PL", plan.sense, len(plan.resources), len(plan.tasks))]
     for resource in plan.resources:
         parts.append(RESOURCE_RECORD.pack(b"RS", resource.identifier, resource.limit))
+    for band in plan.bands:
+        parts.append(BAND_RECORD.pack(b"LB", band.place, band.first, band.limit))
     for task in plan.tasks:
         ends = [value for name in RANGES for value in ends_of(task, name)]
         parts.append(TASK_RECORD.pack(b"TK", task.places, *ends))
@@ -94,6 +113,10 @@ def from_bytes(data, name):
     for _ in range(resource_count):
         resources.append(Resource(*take(data, place, RESOURCE_RECORD, name)))
         place += RESOURCE_RECORD.size
+    bands = []
+    while data[place : place + 2] == MARKS[BAND_RECORD]:  # no count says how many: they last as long as their marks
+        bands.append(Band(*take(data, place, BAND_RECORD, name)))
+        place += BAND_RECORD.size
     tasks = []
     for _ in range(task_count):
         tasks.append(task_from_numbers(take(data, place, TASK_RECORD, name)))
@@ -101,12 +124,12 @@ def from_bytes(data, name):
     if place < len(data):
         left = count(len(data) - place, "byte")
         raise PlanError(f"{name}: byte {place}: {left} left over after the last record")
-    return Plan(sense, tuple(resources), tuple(tasks))
+    return Plan(sense, tuple(resources), tuple(bands), tuple(tasks))
 
 
 def take(data, place, record, name):
     """The values of the record that is due at this byte, without its mark."""
-    mark = {PLAN_RECORD: b"PL", RESOURCE_RECORD: b"RS", TASK_RECORD: b"TK"}[record]
+    mark = MARKS[record]
     left = len(data) - place
     found = bytes(data[place : place + 2])
     if left >= 2 and found != mark:
@@ -114,7 +137,7 @@ def take(data, place, record, name):
         raise PlanError(f"{name}: byte {place}: the mark {mark.decode()} is due, found {shown}")
     if left < record.size:
         raise PlanError(
-            f"{name}: byte {place}: cut short, a {mark.decode()} record takes "
+            f"{name}: byte {place}: cut short, {'an' if mark[:1] in b'LR' else 'a'} {mark.decode()} record takes "
             f"{record.size} bytes and {left} are left"
         )
     return record.unpack_from(data, place)[1:]
@@ -132,7 +155,8 @@ def task_from_numbers(numbers):
 def to_words(plan):
     """The plan in its canonical words."""
     lines = [sense_words(plan.sense)]
-    lines += [f"resource {r.identifier} {r.limit}" for r in plan.resources]
+    lines += [resource_words(resource) for resource in plan.resources]
+    lines += [band_words(band) for band in plan.bands]
     lines += [task_words(task) for task in plan.tasks]
     return "".join(line + "\n" for line in lines)
 
@@ -140,6 +164,16 @@ def to_words(plan):
 def sense_words(sense):
     """The sense in words; a byte that means nothing keeps its number."""
     return SENSES[sense] if sense < len(SENSES) else f"sense {sense}"
+
+
+def resource_words(resource):
+    """The line of a resource."""
+    return f"resource {resource.identifier} {resource.limit}"
+
+
+def band_words(band):
+    """The line of a band."""
+    return f"band {band.place} from {band.first} limit {band.limit}"
 
 
 def set_words(places):
@@ -165,7 +199,7 @@ def from_words(data, name):
     if reader.sense is None:
         last = len(lines) - 1 if len(lines) > 1 and not lines[-1] else len(lines)
         raise PlanError(f"{name}:{last}: the plan ends without its sense, 'at least' or 'at most'")
-    return Plan(reader.sense, tuple(reader.resources), tuple(reader.tasks))
+    return Plan(reader.sense, tuple(reader.resources), tuple(reader.bands), tuple(reader.tasks))
 
 
 def split_line(raw):
@@ -184,7 +218,9 @@ class WordsReader:
     def __init__(self):
         self.sense = None
         self.resources = []
+        self.bands = []
         self.tasks = []
+        self.takers = {"resource": self.take_resource, "band": self.take_band, "task": self.take_task}
 
     def line(self, words):
         """Takes one line; a ValueError says what is wrong with it."""
@@ -192,17 +228,15 @@ class WordsReader:
             return
         if words[0] in ("at", "sense"):
             self.take_sense(words)
-        elif words[0] not in ("resource", "task"):
+        elif words[0] not in self.takers:
             raise ValueError(
                 f"'{words[0]}' is not understood; a line begins with "
-                "'at least', 'at most', 'resource' or 'task'"
+                "'at least', 'at most', 'resource', 'band' or 'task'"
             )
         elif self.sense is None:
             raise ValueError("the sense comes first: 'at least' or 'at most'")
-        elif words[0] == "resource":
-            self.take_resource(words)
         else:
-            self.take_task(words)
+            self.takers[words[0]](words)
 
     def take_sense(self, words):
         """Takes the line of the sense."""
@@ -220,6 +254,16 @@ class WordsReader:
             raise ValueError(f"resource {MOST_RESOURCES + 1}: the file's count ends at {MOST_RESOURCES}")
         identifier = read_number(words[1], "the identifier")
         self.resources.append(Resource(identifier, read_number(words[2], "the limit")))
+
+    def take_band(self, words):
+        """Takes a band's line; it may stand right below its resource, since the file has all bands after all resources anyway."""
+        if self.tasks:
+            raise ValueError("a band after a task; all bands come before the tasks")
+        if len(words) != 6 or words[2::2] != ["from", "limit"]:
+            raise ValueError("a band is written 'band PLACE from DAY limit LIMIT'")
+        place = read_number(words[1], "the band's place", 0, LAST_PLACE, "2 bytes")
+        first = read_number(words[3], "the band's first day")
+        self.bands.append(Band(place, first, read_number(words[5], "the band's limit")))
 
     def take_task(self, words):
         """Takes a task's line."""

@@ -19,7 +19,7 @@ sys.path.insert(0, str(TOOLS))
 import plandraw
 import plansettle
 import planwords
-from planwords import Plan, PlanError, Range, Resource, Task
+from planwords import Band, Plan, PlanError, Range, Resource, Task
 
 CASE9_WORDS = """\
 at least
@@ -37,7 +37,53 @@ CASE9_BYTES = bytes.fromhex(
     "544b 0300 00000000 06000000 02000000 02000000 02000000 08000000 00000000 04000000"
 )
 
+# Case 9 with bands at the ends of what their fields hold
+BANDS_WORDS = """\
+at least
+resource 7 4
+resource 9 3
+band 0 from -100000 limit -1000000
+band 0 from 3 limit 5
+band 65535 from 2147483647 limit -2147483648
+task on 0  origin 1..2  duration 2  end 3..4  height 0..1
+task on 0,1  origin 0..6  duration 2  end 2..8  height 0..4
+"""
+
+BANDS_BYTES = CASE9_BYTES[:26] + bytes.fromhex(
+    "4c42 0000 6079feff c0bdf0ff"
+    "4c42 0000 03000000 05000000"
+    "4c42 ffff ffffff7f 00000080"
+) + CASE9_BYTES[26:]
+
+# The level is 2, from day 4 it is 5, from day 7 it is 1; another resource between them has none
+SEASON_WORDS = """\
+at least
+resource 7 2
+resource 8 0
+resource 9 3
+band 0 from 4 limit 5
+band 0 from 7 limit 1
+band 2 from -2 limit 6
+task on 0  origin 0  duration 9  end 9  height 3..4
+"""
+
 CASE9_ANSWER = "settled 3\n0 1 1 2 2 2 3 4 0 1\n1 1 1 2 2 2 3 4 3 4\n"
+
+
+BAD_BANDS = [
+    *((band, "a band is written 'band PLACE from DAY limit LIMIT'") for band in (
+        "band", "band 0", "band 0 from 1", "band 0 from 1 limit", "band 0 limit 2 from 1", "band 0 from 1 limit 2 3",
+        "band 0 from 1 to 2", "band 0 at 1 limit 2", "band 0 From 1 limit 2", "band from 1 limit 2", "band 0 from limit 2",
+    )),
+    ("band x from 1 limit 2", "the band's place: 'x' is not a whole number"),
+    ("band -1 from 1 limit 2", "the band's place: -1 does not fit 2 bytes (0..65535)"),
+    ("band 65536 from 1 limit 2", "the band's place: 65536 does not fit 2 bytes (0..65535)"),
+    ("band 0 from 1.5 limit 2", "the band's first day: '1.5' is not a whole number"),
+    ("band 0 from 1..5 limit 2", "the band's first day: '1..5' is not a whole number"),
+    ("band 0 from 2147483648 limit 2", "the band's first day: 2147483648 does not fit 4 bytes"),
+    ("band 0 from 1 limit two", "the band's limit: 'two' is not a whole number"),
+    ("band 0 from 1 limit -2147483649", "the band's limit: -2147483649 does not fit 4 bytes"),
+]
 
 
 def words_plan(text):
@@ -73,16 +119,22 @@ def random_range(dice):
 def random_plan(dice):
     """A plan of the format's shape, mostly a bad one."""
     resources = [Resource(random_number(dice), random_number(dice)) for _ in range(dice.choice([0, 1, 2, 5, 255]))]
+    bands = [
+        Band(dice.choice([0, 1, dice.randrange(65536)]), random_number(dice), random_number(dice))
+        for _ in range(dice.choice([0, 1, 3, 64, 65, 300]))
+    ]
     tasks = [
         Task(dice.choice([0, 1, 65535, dice.randrange(65536)]), *(random_range(dice) for _ in range(4)))
         for _ in range(dice.choice([0, 1, 3, 300]))
     ]
-    return Plan(dice.choice([0, 1, 1, dice.randrange(256)]), tuple(resources), tuple(tasks))
+    return Plan(dice.choice([0, 1, 1, dice.randrange(256)]), tuple(resources), tuple(bands), tuple(tasks))
 
 
 def good_plan(dice):
     """A small plan without low above high, and a narrower list of its tasks."""
     resources = tuple(Resource(k, dice.randint(-4, 4)) for k in range(dice.randint(1, 4)))
+    starts = sorted({(dice.randrange(len(resources)), dice.randint(-12, 12)) for _ in range(dice.randint(0, 5))})
+    bands = tuple(Band(place, first, dice.randint(-4, 4)) for place, first in starts)
     old, new = [], []
     for _ in range(dice.randint(0, 6)):
         places = dice.randrange(1, 1 << len(resources))
@@ -91,7 +143,7 @@ def good_plan(dice):
         cuts = [Range(dice.randint(r.low, r.high), r.high) for r in ranges]
         old.append(Task(places, *ranges))
         new.append(Task(kept, *cuts))
-    return Plan(dice.randint(0, 1), resources, tuple(old)), tuple(new)
+    return Plan(dice.randint(0, 1), resources, bands, tuple(old)), tuple(new)
 
 
 class Words(unittest.TestCase):
@@ -101,6 +153,31 @@ class Words(unittest.TestCase):
         self.assertEqual(len(CASE9_BYTES), 6 + 2 * 10 + 2 * 36)
         self.assertEqual(planwords.to_bytes(words_plan(CASE9_WORDS)), CASE9_BYTES)
         self.assertEqual(planwords.to_words(planwords.from_bytes(CASE9_BYTES, "file")), CASE9_WORDS)
+
+    def test_bytes_of_bands(self):
+        self.assertEqual(len(BANDS_BYTES), len(CASE9_BYTES) + 3 * 12)
+        self.assertEqual(planwords.to_bytes(words_plan(BANDS_WORDS)), BANDS_BYTES)
+        self.assertEqual(planwords.to_words(planwords.from_bytes(BANDS_BYTES, "file")), BANDS_WORDS)
+
+    def test_longest_file(self):
+        task = "task on 0 origin 1 duration 1 end 2 height 0\n"
+        bands = "".join(f"band 0 from {k} limit 1\n" for k in range(64))
+        text = "at least\n" + "resource 1 1\n" * 16 + bands + task * 256
+        self.assertEqual(len(planwords.to_bytes(words_plan(text))), 10150)
+
+    def test_bands_without_tasks(self):
+        plan = words_plan("at most\nresource 1 2\nband 0 from 3 limit 4\n")
+        self.assertEqual((plan.bands, plan.tasks), ((Band(0, 3, 4),), ()))
+        self.assertEqual(planwords.from_bytes(planwords.to_bytes(plan), "file"), plan)
+
+    def test_bands_that_are_refused_are_written_too(self):
+        # out of order by place, by day, a repeat, beyond the ends, naming no resource, and more than 64
+        bands = ["band 1 from 2 limit 3", "band 0 from 5 limit 3", "band 0 from 4 limit 3", "band 0 from 4 limit 3"]
+        bands += ["band 0 from 100001 limit 1000001", "band 2 from 1 limit 1"] + ["band 9 from 0 limit 0"] * 65
+        text = "at least\nresource 1 1\nresource 2 1\n" + "".join(band + "\n" for band in bands)
+        data = planwords.to_bytes(words_plan(text))
+        self.assertEqual(len(data), 6 + 2 * 10 + 71 * 12)
+        self.assertEqual(planwords.to_words(planwords.from_bytes(data, "file")), text)
 
     def test_signed_and_little_endian(self):
         plan = words_plan("at most\nresource -2 -2147483648\ntask on 15 origin 258 duration 0 end 1 height -1\n")
@@ -131,6 +208,8 @@ class Words(unittest.TestCase):
             "task on 1 , 0 origin 0..6 duration 2 end 2..8 height -0..4#last"
         )
         self.assertEqual(planwords.to_bytes(words_plan(free)), CASE9_BYTES)
+        below = BANDS_WORDS.replace("resource 9 3\n", "").replace("limit 5\n", "limit +05  # season\n\n  resource 9 3\n")
+        self.assertEqual(planwords.to_bytes(words_plan(below)), BANDS_BYTES)
 
     def test_bad_plans_can_be_written(self):
         text = "at least\ntask on none  origin 9..3  duration -1  end 0  height 2147483647\n"
@@ -153,6 +232,10 @@ class Words(unittest.TestCase):
             ("at least\nresource 1 1_0\n", 2, "not a whole number"),
             ("at least\nresource 1 \u0663\n", 2, "not a whole number"),
             (f"at least\n{task}\nresource 1 2\n", 3, "after a task"),
+            ("band 0 from 1 limit 2\n", 1, "sense comes first"),
+            ("at least\nbands 0 from 1 limit 2\n", 2, "'resource', 'band' or 'task'"),
+            (f"at least\n{task}\n# so late\nband 0 from 1 limit 2\n", 4, "a band after a task"),
+            *((f"at least\nresource 1 2\n{band}\n", 3, part) for band, part in BAD_BANDS),
             (f"at least\n{task} on 1\n", 2, "given twice"),
             (f"at least\n{task} colour 1\n", 2, "'colour'"),
             ("at least\ntask on 0 origin 1\n", 2, "lacks duration, end, height"),
@@ -178,6 +261,9 @@ class Words(unittest.TestCase):
         for data, place in [
             (b"", 0), (b"P", 0), (b"XX", 0), (CASE9_BYTES[:5], 0), (CASE9_BYTES[:7], 6), (CASE9_BYTES[:15], 6),
             (CASE9_BYTES[:-1], 62), (CASE9_BYTES + b"T", 98), (CASE9_BYTES[:26] + b"RS" + CASE9_BYTES[28:], 26),
+            # A band cut short; one byte of a mark, which is a task's then; a band before all resources and one after a task.
+            (BANDS_BYTES[:28], 26), (BANDS_BYTES[:49], 38), (BANDS_BYTES[:51], 50), (BANDS_BYTES[:63], 62),
+            (BANDS_BYTES[:6] + BANDS_BYTES[26:], 6), (CASE9_BYTES[:62] + BANDS_BYTES[26:38] + CASE9_BYTES[62:], 62),
         ]:
             with self.subTest(data=data), self.assertRaisesRegex(PlanError, f"^file: byte {place}: "):
                 planwords.from_bytes(data, "file")
@@ -200,7 +286,7 @@ class Answers(unittest.TestCase):
         self.assertIn("Nothing was narrowed.", text)
 
     def test_every_refusal_has_words(self):
-        for number in range(1, 13):
+        for number in range(1, 14):
             self.assertIn(f"number {number}", plansettle.refusal_words(answer_of(f"refused {number} 0\n")))
 
     def test_refusal_shows_its_line(self):
@@ -208,9 +294,62 @@ class Answers(unittest.TestCase):
         self.assertIn("resource 9 3", plansettle.refused_text(plan, answer_of("refused 3 1\n"), "x"))
         self.assertIn("task on 0,1 ", plansettle.refused_text(plan, answer_of("refused 5 1\n"), "x"))
 
+    def test_refusal_13_names_the_band(self):
+        plan = words_plan(SEASON_WORDS.replace("from 7", "from 4"))
+        text = plansettle.refused_text(plan, answer_of("refused 13 1\n"), "season")
+        self.assertEqual(text, (
+            "season: at least, 3 resources, 3 bands, 1 task\n"
+            "Refused with number 13 at band 1: a band out of order, beyond its ends, naming no resource, or a 65th.\n"
+            "  band 0 from 4 limit 1\n"
+            "  not after the band before it: band 0 from 4 limit 5\n"
+        ))
+        text = plansettle.refused_text(plan, answer_of("refused 13 0\n"), "season")
+        self.assertTrue(text.endswith("  band 0 from 4 limit 5\n"), text)
+        for old, new, place, fault in (
+            ("band 0 from 4", "band 7 from 4", 0, "no resource has place 7: there are 3"),
+            ("band 0 from 4", "band 0 from -100001", 0, "day -100001 is outside -100000..100000"),
+            ("limit 5", "limit 1000001", 0, "limit 1000001 is outside -1000000..1000000"),
+        ):
+            plan_of = words_plan(SEASON_WORDS.replace(old, new, 1))
+            self.assertTrue(plansettle.refused_text(plan_of, answer_of(f"refused 13 {place}\n"), "x").endswith(f"  {fault}\n"), fault)
+        many = words_plan("at least\nresource 1 1\n" + "".join(f"band 0 from {k} limit 0\n" for k in range(65)))
+        self.assertIn("there are 65 bands, at most 64 are allowed", plansettle.refused_text(many, answer_of("refused 13 64\n"), "x"))
+        # A damaged file has no list to look the band up in.
+        self.assertIn("at band 64: ", plansettle.refused_text(None, answer_of("refused 13 64\n"), "torn"))
+        self.assertEqual(plansettle.refused_text(plan, answer_of("refused 13 3\n"), "x").count("\n"), 2)
+
+    def test_refused_resource_comes_with_its_bands(self):
+        text = plansettle.refused_text(words_plan(SEASON_WORDS), answer_of("refused 4 0\n"), "season")
+        self.assertTrue(text.endswith("  resource 7 2\n  band 0 from 4 limit 5\n  band 0 from 7 limit 1\n"), text)
+
+    def test_table_of_bands(self):
+        plan = words_plan(SEASON_WORDS.replace("band 2", "band 3"))
+        self.assertEqual(plansettle.resource_table(plan), [
+            "place  resource  limit (at least)  from day  band",
+            "-----  --------  ----------------  --------  ----",
+            "    0         7                 2",
+            "                                5         4     0",
+            "                                1         7     1",
+            "    1         8                 0",
+            "    2         9                 3",
+            "    3      none                 6        -2     2",
+        ])
+        answer = plansettle.Answer(passes=1, tasks=plan.tasks)
+        for text in (plansettle.show_text(plan, "season"), plansettle.settled_text(plan, answer, "season")):
+            self.assertTrue(text.startswith("season: at least, 3 resources, 3 bands, 1 task\n"), text)
+            self.assertIn("".join(line + "\n" for line in plansettle.resource_table(plan)), text)
+
+    def test_table_without_bands(self):
+        self.assertEqual(plansettle.resource_table(words_plan(CASE9_WORDS)), [
+            "place  resource  limit (at least)",
+            "-----  --------  ----------------",
+            "    0         7                 4",
+            "    1         9                 3",
+        ])
+
     def test_output_that_is_not_understood(self):
         for text in [
-            "", "settled 1", "settled\n", "settled x\n", "refused 7\n", "refused 13 0\n", "refused 7 0\n\n", "done 1\n",
+            "", "settled 1", "settled\n", "settled x\n", "refused 7\n", "refused 14 0\n", "refused 7 0\n\n", "done 1\n",
             "settled 1\n1 1 1 2 2 2 3 4 0 1\n", "settled 1\n0 1 1 2 2 2 3 4 0\n", "settled 1\n0  1 1 2 2 2 3 4 0 1\n",
         ]:
             with self.subTest(text=text), self.assertRaises(PlanError):
@@ -220,9 +359,13 @@ class Answers(unittest.TestCase):
 class Drawings(unittest.TestCase):
     """The drawings are well-formed and hold the bars they should."""
 
+    def drawn(self, plan, answer):
+        """The outermost element of a drawing."""
+        return ElementTree.fromstring(plandraw.drawing(plan, answer, "a <plan> & more").encode())
+
     def bars(self, plan, answer):
         """How many elements of each class a drawing has, and its texts."""
-        root = ElementTree.fromstring(plandraw.drawing(plan, answer, "a <plan> & more").encode())
+        root = self.drawn(plan, answer)
         counts, texts = {}, []
         for found in root.iter():
             counts[found.get("class")] = counts.get(found.get("class"), 0) + 1
@@ -286,6 +429,71 @@ class Drawings(unittest.TestCase):
         self.assertEqual(plandraw.level_steps(plan.tasks, 0, 1), [(1, 2, 1, False), (2, 3, 1, True), (3, 4, 1, False)])
 
 
+    def test_limit_of_each_day(self):
+        plan = words_plan(SEASON_WORDS)
+        days = range(-4, 11)
+        self.assertEqual([plandraw.limit_on(plan, 0, day) for day in days], [2] * 8 + [5] * 3 + [1] * 4)
+        self.assertEqual([plandraw.limit_on(plan, 1, day) for day in days], [0] * 15)
+        self.assertEqual([plandraw.limit_on(plan, 2, day) for day in days], [3] * 2 + [6] * 13)
+        self.assertEqual(plandraw.limit_steps(plan, 0, -1, 10), ((-1, 4, 2), (4, 7, 5), (7, 10, 1)))
+        self.assertEqual(plandraw.limit_steps(plan, 0, 7, 9), ((7, 9, 1),))
+        self.assertEqual(plandraw.limit_steps(plan, 2, -1, 10), ((-1, 10, 6),))
+        same = words_plan(SEASON_WORDS.replace("limit 5", "limit 2"))
+        self.assertEqual(plandraw.limit_steps(same, 0, -1, 10), ((-1, 7, 2), (7, 10, 1)))
+
+    def test_limit_steps_are_the_days_limits(self):
+        dice = random.Random(4)
+        for _ in range(200):
+            plan, _ = good_plan(dice)
+            for place in range(len(plan.resources)):
+                steps = plandraw.limit_steps(plan, place, -15, 15)
+                days = [limit for first, last, limit in steps for _ in range(first, last)]
+                self.assertEqual(days, [plandraw.limit_on(plan, place, day) for day in range(-15, 15)])
+
+    def test_level_line_has_the_steps(self):
+        plan = words_plan(SEASON_WORDS)
+        root = self.drawn(plan, plansettle.Answer(passes=1, tasks=plan.tasks))
+        legend, *lines = [found.get("d") for found in root.iter() if found.get("class") == "limit"]
+        # One line in each panel, for only the first resource has a task; days -1 to 10 are drawn, 40 wide each.
+        self.assertEqual(len(lines), 2)
+        left = plandraw.MARGIN + plandraw.LABELS
+        rights = [float(part.split()[0]) for part in lines[0].split("H")[1:]]
+        self.assertEqual(rights, [left + 40 * 5, left + 40 * 8, left + 40 * 11])
+        own, season, after = [float(part.split()[0]) for part in lines[0].split("V")[1:]]
+        # Down the page is down the scale: 38 high from 5, the highest, to 0.
+        self.assertEqual([round((own - season) / 38 * 5, 3), round((after - own) / 38 * 5, 3)], [3, 1])
+        self.assertEqual(legend.count("V"), 2)
+        texts = [found.text for found in root.iter()]
+        for words in ("2", "5", "1", "place 0  ·  at least 2  ·  5 from day 4  ·  1 from day 7", "limit of the day"):
+            self.assertIn(words, texts)
+
+    def test_level_is_wrong_on_the_bands_days_only(self):
+        plan = words_plan(SEASON_WORDS)
+        steps = plandraw.level_steps(plan.tasks, 0, 1)
+        self.assertEqual(list(plandraw.against_limits(steps, plandraw.limit_steps(plan, 0, -1, 10))), [
+            (0, 4, 4, True, 2), (4, 7, 4, True, 5), (7, 9, 4, True, 1),
+        ])
+        root = self.drawn(plan, answer_of("refused 7 0\n"))
+        wrong = [found for found in root.iter() if found.get("fill") == plandraw.LEVEL_WRONG]
+        self.assertEqual([(found.get("x"), found.get("width")) for found in wrong], [("318", "120")])
+
+    def test_long_lists_of_bands_are_told_in_lines(self):
+        text = "at least\nresource 1 1\n" + "".join(f"band 0 from {k} limit {k % 7}\n" for k in range(64))
+        plan = words_plan(text + "task on 0  origin 0  duration 64  end 64  height 9\n")
+        _, texts = self.bars(plan, plansettle.Answer(passes=1, tasks=plan.tasks))
+        told = "  ·  ".join(words for words in texts if "from day" in words)
+        self.assertEqual(told.count("from day"), 64)
+        self.assertTrue(all(len(words) < 200 for words in texts))
+
+    def test_refused_band_marks_its_resource(self):
+        plan = words_plan(SEASON_WORDS)
+        for place, wanted in ((0, 0), (1, 0), (2, 2), (3, None)):
+            self.assertEqual(plandraw.resource_meant(plan, plansettle.Answer(refusal=13, place=place)), wanted)
+        counts, texts = self.bars(plan, answer_of("refused 13 2\n"))
+        self.assertEqual(counts["refusal"], 1)
+        self.assertTrue(any("at band 2" in words for words in texts))
+
+
 class Command(unittest.TestCase):
     """The command as it is called."""
 
@@ -310,6 +518,20 @@ class Command(unittest.TestCase):
         self.assertEqual(run("unpack", "-o", words, data=CASE9_BYTES)[0], 0)
         self.assertEqual(run("pack", words, "-o", again)[0], 0)
         self.assertEqual(again.read_bytes(), CASE9_BYTES)
+
+    def test_pack_and_unpack_bands(self):
+        self.assertEqual(run("pack", data=BANDS_WORDS.encode()), (0, BANDS_BYTES, ""))
+        self.assertEqual(run("unpack", data=BANDS_BYTES), (0, BANDS_WORDS.encode(), ""))
+        status, out, said = run("pack", data=BANDS_WORDS.replace("limit 5", "limit").encode())
+        self.assertEqual((status, out), (1, b""))
+        self.assertEqual(said, "standard input:5: a band is written 'band PLACE from DAY limit LIMIT'\n")
+
+    def test_settle_a_refused_band(self):
+        self.plan.write_bytes(BANDS_BYTES)
+        status, out, _ = run("settle", self.plan, "--planner", self.stand_in("refused 13 2\n"))
+        self.assertEqual(status, 0)
+        self.assertIn(b"Refused with number 13 at band 2: a band out of order", out)
+        self.assertIn(b"\n  band 65535 from 2147483647 limit -2147483648\n", out)
 
     def test_error_leaves_the_output_alone(self):
         words, out = self.folder / "w.txt", self.folder / "out.plan"

@@ -47,6 +47,7 @@ impl Comparison {
     pub fn compare(&mut self, file: &[u8], random: &mut Random) -> Result<(), Difference> {
         let plan = file::read(file);
         self.tally.plans += 1;
+        self.tally.banded += u64::from(plan.as_ref().is_ok_and(|plan| !plan.bands.is_empty()));
         let mut writing = Vec::new();
         for call in calls(&plan) {
             let expected = Expected::of(call, &plan, self.fault);

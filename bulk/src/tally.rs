@@ -47,6 +47,8 @@ const ANSWERS: usize = 1 + Refusal::LAST_NUMBER as usize;
 #[derive(Clone, Default)]
 pub struct Tally {
     pub plans: u64,
+    /// Those of them that are read and have bands.
+    pub banded: u64,
     kinds: [u64; LINES.len()],
     /// Settle's answers by refusal number; 0 is "settled".
     answers: [u64; ANSWERS],
@@ -72,6 +74,7 @@ impl Tally {
 
     pub fn add(&mut self, other: &Tally) {
         self.plans += other.plans;
+        self.banded += other.banded;
         let kinds = self.kinds.iter_mut().zip(&other.kinds);
         let answers = self.answers.iter_mut().zip(&other.answers);
         for (mine, theirs) in kinds.chain(answers) {
@@ -96,8 +99,9 @@ impl Tally {
         let total: u64 = self.kinds.iter().sum();
         let rate = |count: u64| (count as f64 / seconds) as u64;
         text += &format!(
-            "{} plans in {seconds:.1} s: {} plans settled on both sides a second, {} comparisons a second\n",
+            "{} plans ({} with bands) in {seconds:.1} s: {} plans settled on both sides a second, {} comparisons a second\n",
             self.plans,
+            self.banded,
             rate(self.plans),
             rate(total)
         );

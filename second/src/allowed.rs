@@ -25,7 +25,7 @@ impl Choice {
     }
 }
 
-/// The number of allowed plans. Refusals 1 to 6 first.
+/// The number of allowed plans. The entry checks first.
 pub fn count(plan: &Plan) -> Result<u64, Refusal> {
     entry::check(plan)?;
     let choices: Vec<Vec<Choice>> = plan.tasks.iter().map(choices).collect();
@@ -72,8 +72,8 @@ fn count_from(plan: &Plan, choices: &[Vec<Choice>], chosen: &mut Vec<Choice>) ->
 
 /// "on every resource and every day covered there by at least one task, the
 /// heights of all tasks covering that day on that resource add up to at least
-/// (or at most) the limit". "A day that no task covers is not checked (report,
-/// condition 4)."
+/// (or at most) the limit", and that is the day's. "A day that no task covers is
+/// not checked (report, condition 4)."
 fn levels_hold(plan: &Plan, chosen: &[Choice]) -> bool {
     chosen.iter().all(|choice| {
         choice.days().all(|day| {

@@ -1,10 +1,11 @@
-//! Entry checks: refusals 1 to 6 with their places, in document 01's order.
+//! Entry checks: refusals 1 to 6 and 13 with their places, in the documents' order.
 
 use crate::plan::*;
 use crate::refusal::Refusal;
 
 /// "Order for lists: 1, 2, 3 over all resources, 4 over all, then task by task
-/// 5 before 6, then 12 or 10, then 7." The last three are the calls' own.
+/// 5 before 6, then 12 or 10, then 7." The last three are the calls' own. 13 comes
+/// "after 4 and before 5".
 pub fn check(plan: &Plan) -> Result<(), Refusal> {
     check_counts(plan.resources.len(), plan.tasks.len())?;
     check_contents(plan)
@@ -21,10 +22,11 @@ pub fn check_counts(resources: usize, tasks: usize) -> Result<(), Refusal> {
     Ok(())
 }
 
-/// Refusals 3 to 6, for lists whose lengths have been checked.
+/// Refusals 3, 4, 13, 5 and 6, for lists of resources and tasks whose lengths have been checked.
 pub fn check_contents(plan: &Plan) -> Result<(), Refusal> {
     check_identifiers(&plan.resources)?;
     check_limits(&plan.resources)?;
+    check_bands(&plan.bands, plan.resources.len())?;
     for (place, task) in plan.tasks.iter().enumerate() {
         if !ranges_stand(task) {
             return Err(Refusal::range_outside(place));
@@ -53,6 +55,32 @@ fn check_limits(resources: &[Resource]) -> Result<(), Refusal> {
         }
     }
     Ok(())
+}
+
+/// "13 for a band out of order, beyond its ends, naming no resource, or a 65th,
+/// place the first such band".
+fn check_bands(bands: &[Band], resources: usize) -> Result<(), Refusal> {
+    for (place, band) in bands.iter().enumerate() {
+        let in_order = bands[..place]
+            .last()
+            .is_none_or(|before| rises(before, band));
+        let is_beyond = place >= MOST_BANDS;
+        if !in_order || is_beyond || !band_stands(band, resources) {
+            return Err(Refusal::band_outside(place));
+        }
+    }
+    Ok(())
+}
+
+/// "strictly rising by place and then by day"
+fn rises(before: &Band, band: &Band) -> bool {
+    before.place < band.place || (before.place == band.place && before.from < band.from)
+}
+
+fn band_stands(band: &Band, resources: usize) -> bool {
+    Range::single(band.from).stands_within(DAYS)
+        && Range::single(band.limit).stands_within(POWERS)
+        && band.place < resources
 }
 
 fn ranges_stand(task: &Task) -> bool {

@@ -1,4 +1,4 @@
-//! The "Errors that look right" of document 01, each to be planted alone.
+//! The "Errors that look right" of document 01, and errors of the bands, each to be planted alone.
 
 /// A planted error. The rules without one take `None`.
 #[derive(Clone, Copy, Debug, PartialEq, Eq)]
@@ -21,6 +21,10 @@ pub enum Fault {
     /// "Taking a task's own height out of the sum to get others when it was
     /// never added, as for a negative one that isn't sure."
     OwnNeverAdded,
+    /// A band taken from the day after its first day.
+    BandDayLate,
+    /// The RS limit forgotten: a resource's first band is taken before its first day too.
+    FirstBandAlways,
 }
 
 /// Every fault with the name the command line knows it by.
@@ -31,6 +35,8 @@ pub const FAULTS: &[(&str, Fault)] = &[
     ("closed-middle", Fault::ClosedMiddle),
     ("bar-needs-sure", Fault::BarNeedsSure),
     ("own-never-added", Fault::OwnNeverAdded),
+    ("band-day-late", Fault::BandDayLate),
+    ("first-band-always", Fault::FirstBandAlways),
 ];
 
 pub fn names() -> Vec<&'static str> {

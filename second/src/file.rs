@@ -1,4 +1,4 @@
-//! Plan files: their records, reading (8, 9, 1, 2, 11, then 3 to 6) and writing (1 to 6, then 10).
+//! Plan files: their records, reading (8, 9, 1, 2, 11, bands too many, then 3, 4, 13, 5, 6) and writing (the entry checks, then 10).
 
 use crate::entry;
 use crate::plan::*;
@@ -24,6 +24,12 @@ pub const RS: Record = Record {
     length: 10,
 };
 
+/// "resource place (2 bytes), first day (4), limit (4), 12 bytes with the mark"
+pub const LB: Record = Record {
+    mark: *b"LB",
+    length: 12,
+};
+
 /// "set 2 (bit k is resource k), then low and high, 4 each, of origin, duration,
 /// end, height"
 pub const TK: Record = Record {
@@ -31,30 +37,43 @@ pub const TK: Record = Record {
     length: 36,
 };
 
-/// How long the file of so many resources and tasks is, and so where the record
-/// after them starts: "One PL, all RS, all TK, nothing more".
-pub const fn length(resources: usize, tasks: usize) -> usize {
-    PL.length + resources * RS.length + tasks * TK.length
+/// How long the file of so many resources, bands and tasks is, and so where the
+/// record after them starts: "One PL, all RS, all TK, nothing more", with the LB
+/// "after all RS and before TK".
+pub const fn length(resources: usize, bands: usize, tasks: usize) -> usize {
+    PL.length + resources * RS.length + bands * LB.length + tasks * TK.length
 }
 
-/// "at most 9,382 bytes"
-pub const LONGEST: usize = length(MOST_RESOURCES, MOST_TASKS);
+/// "at most 9,382 bytes" without bands, and 64 times 12 more with them.
+pub const LONGEST: usize = length(MOST_RESOURCES, MOST_BANDS, MOST_TASKS);
 
 // ---- Reading ----
 
 /// Reads a plan file into lists that have room for every plan.
 pub fn read(bytes: &[u8]) -> Result<Plan, Refusal> {
-    read_with_room(bytes, MOST_RESOURCES, MOST_TASKS)
+    read_with_room(bytes, Room::FOR_EVERY_PLAN)
 }
 
-/// Reads a plan file into lists that have room for so many resources and tasks.
-/// "On success the reader writes the first places only and later ones stay": here
-/// the lists are new and as long as the file says.
-pub fn read_with_room(
-    bytes: &[u8],
-    resource_room: usize,
-    task_room: usize,
-) -> Result<Plan, Refusal> {
+/// How many places the lists lent to the reader have.
+#[derive(Clone, Copy, Debug, PartialEq, Eq)]
+pub struct Room {
+    pub resources: usize,
+    pub bands: usize,
+    pub tasks: usize,
+}
+
+impl Room {
+    pub const FOR_EVERY_PLAN: Room = Room {
+        resources: MOST_RESOURCES,
+        bands: MOST_BANDS,
+        tasks: MOST_TASKS,
+    };
+}
+
+/// Reads a plan file into lists that have so much room. "On success the reader
+/// writes the first places only and later ones stay": here the lists are new and
+/// as long as the file says.
+pub fn read_with_room(bytes: &[u8], room: Room) -> Result<Plan, Refusal> {
     let mut reader = Reader { bytes, place: 0 };
     let head = Head::of_fields(reader.due(PL)?);
     // "In PL then, in this order: refusal 8 for the sense, refusal 1 for the task
@@ -62,24 +81,44 @@ pub fn read_with_room(
     let sense = Sense::numbered(head.sense).ok_or(Refusal::wrong_mark_or_sense(0))?;
     let (resources, tasks) = (usize::from(head.resources), usize::from(head.tasks));
     entry::check_counts(resources, tasks)?;
-    if resources > resource_room || tasks > task_room {
+    if resources > room.resources || tasks > room.tasks {
         return Err(Refusal::LIST_SHORTER);
     }
     let mut plan = Plan {
         sense,
         resources: Vec::new(),
+        bands: Vec::new(),
         tasks: Vec::new(),
     };
     for _ in 0..resources {
         plan.resources.push(resource_of(reader.due(RS)?));
     }
+    plan.bands = bands(&mut reader, room.bands)?;
     for _ in 0..tasks {
         plan.tasks.push(task_of(reader.due(TK)?));
     }
-    // "After the last record, leftover bytes 9, then 3 to 6."
+    // "After the last record, leftover bytes 9, then 3 to 6", 13 among them.
     reader.end()?;
     entry::check_contents(&plan)?;
     Ok(plan)
+}
+
+/// The bands, as far as LB marks follow: nothing says before how many there are.
+/// "in a file a 65th is refused when met whole (cut short, it gets 9), as is, with
+/// 11, an earlier one that the lent band list has no room for."
+fn bands(reader: &mut Reader, room: usize) -> Result<Vec<Band>, Refusal> {
+    let mut bands = Vec::new();
+    while reader.is_at(LB) {
+        let band = band_of(reader.due(LB)?);
+        if bands.len() == MOST_BANDS {
+            return Err(Refusal::band_outside(MOST_BANDS));
+        }
+        if bands.len() >= room {
+            return Err(Refusal::LIST_SHORTER);
+        }
+        bands.push(band);
+    }
+    Ok(bands)
 }
 
 /// "A reader stands in the lent file bytes and hands out one record after another".
@@ -108,6 +147,11 @@ impl<'a> Reader<'a> {
         Ok(Fields(&rest[mark.len()..record.length]))
     }
 
+    /// Whether this record's mark comes next.
+    fn is_at(&self, record: Record) -> bool {
+        self.bytes[self.place..].starts_with(&record.mark)
+    }
+
     fn end(&self) -> Result<(), Refusal> {
         if self.place < self.bytes.len() {
             return Err(Refusal::cut_short_or_left_over(self.place));
@@ -125,6 +169,11 @@ impl Fields<'_> {
         let (field, rest) = self.0.split_first_chunk().expect("the record is whole");
         self.0 = rest;
         *field
+    }
+
+    /// A place or a set, in 2 bytes.
+    fn unsigned(&mut self) -> u16 {
+        u16::from_le_bytes(self.take())
     }
 
     fn signed(&mut self) -> i32 {
@@ -147,9 +196,17 @@ fn resource_of(mut fields: Fields) -> Resource {
     }
 }
 
+fn band_of(mut fields: Fields) -> Band {
+    Band {
+        place: usize::from(fields.unsigned()),
+        from: i64::from(fields.signed()),
+        limit: i64::from(fields.signed()),
+    }
+}
+
 fn task_of(mut fields: Fields) -> Task {
     Task {
-        set: Set(u64::from(u16::from_le_bytes(fields.take()))),
+        set: Set(u64::from(fields.unsigned())),
         origin: fields.range(),
         duration: fields.range(),
         end: fields.range(),
@@ -178,7 +235,7 @@ impl Head {
         Head {
             sense: u8::from_le_bytes(fields.take()),
             resources: u8::from_le_bytes(fields.take()),
-            tasks: u16::from_le_bytes(fields.take()),
+            tasks: fields.unsigned(),
         }
     }
 
@@ -195,7 +252,7 @@ impl Head {
 // ---- Writing ----
 
 /// Writes the plan file into the buffer's first bytes and gives its length:
-/// refusals 1 to 6, then 10. "the writer writes exactly the file's length".
+/// the entry checks, then 10. "the writer writes exactly the file's length".
 pub fn write(plan: &Plan, buffer: &mut [u8]) -> Result<usize, Refusal> {
     entry::check(plan)?;
     let bytes = unchecked_bytes(plan);
@@ -214,6 +271,12 @@ pub fn unchecked_bytes(plan: &Plan) -> Vec<u8> {
         bytes.extend(RS.mark);
         bytes.extend(resource.id.to_le_bytes());
         bytes.extend((resource.limit as i32).to_le_bytes());
+    }
+    for band in &plan.bands {
+        bytes.extend(LB.mark);
+        bytes.extend((band.place as u16).to_le_bytes());
+        bytes.extend((band.from as i32).to_le_bytes());
+        bytes.extend((band.limit as i32).to_le_bytes());
     }
     for task in &plan.tasks {
         bytes.extend(TK.mark);

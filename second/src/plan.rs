@@ -1,4 +1,4 @@
-//! What a plan holds: sense, resources, tasks; how many there are, and the ends of values.
+//! What a plan holds: sense, resources, bands, tasks; how many there are, and the ends of values.
 //!
 //! "A day number is never added to a power"; both are plain numbers here, and
 //! the kinds that keep them apart are the engine's.
@@ -7,13 +7,15 @@ use std::ops::RangeInclusive;
 
 /// "1 to 16 resources".
 pub const MOST_RESOURCES: usize = 16;
+/// "A plan may carry up to 64 bands".
+pub const MOST_BANDS: usize = 64;
 /// "0 to 256 tasks".
 pub const MOST_TASKS: usize = 256;
-/// The ends of "origin, end (day number)".
+/// The ends of "origin, end (day number)", and of a band's first day.
 pub const DAYS: Range = Range::new(-100_000, 100_000);
 /// The ends of "duration".
 pub const DURATIONS: Range = Range::new(0, 10_000);
-/// The ends of "height, limit".
+/// The ends of "height, limit", and of a band's limit.
 pub const POWERS: Range = Range::new(-1_000_000, 1_000_000);
 
 /// One plan: lists of any length and contents until `entry::check` has passed.
@@ -21,21 +23,33 @@ pub const POWERS: Range = Range::new(-1_000_000, 1_000_000);
 pub struct Plan {
     pub sense: Sense,
     pub resources: Vec<Resource>,
+    pub bands: Vec<Band>,
     pub tasks: Vec<Task>,
 }
 
 impl Plan {
-    /// The limit of the resource at this place on this day: the same on every day.
-    pub fn limit_on(&self, place: usize, _day: i64) -> i64 {
-        self.resources[place].limit
+    /// "The steps and the allowed plans read that day's limit": of the resource's
+    /// bands that have begun by this day the last one's. "Before a resource's first
+    /// band its RS limit stands."
+    pub fn limit_on(&self, place: usize, day: i64) -> i64 {
+        let begun = self.bands_of(place).filter(|band| band.from <= day);
+        begun
+            .last()
+            .map_or(self.resources[place].limit, |band| band.limit)
+    }
+
+    /// The bands of the resource at this place, in their order.
+    pub fn bands_of(&self, place: usize) -> impl Iterator<Item = &Band> {
+        self.bands.iter().filter(move |band| band.place == place)
     }
 
     /// The same plan in the other sense: "every height and limit negated and
-    /// each height's two ends swapped".
+    /// each height's two ends swapped"; a band's limit is a limit.
     pub fn negated(&self) -> Plan {
         Plan {
             sense: self.sense.other(),
             resources: self.resources.iter().map(Resource::negated).collect(),
+            bands: self.bands.iter().map(Band::negated).collect(),
             tasks: self.tasks.iter().map(Task::negated).collect(),
         }
     }
@@ -74,6 +88,24 @@ pub struct Resource {
 impl Resource {
     fn negated(&self) -> Resource {
         Resource {
+            limit: -self.limit,
+            ..*self
+        }
+    }
+}
+
+/// "resource place (2 bytes), first day (4), limit (4)": from that day on, until
+/// the resource's next band, the resource has that limit.
+#[derive(Clone, Copy, Debug, PartialEq, Eq)]
+pub struct Band {
+    pub place: usize,
+    pub from: i64,
+    pub limit: i64,
+}
+
+impl Band {
+    fn negated(&self) -> Band {
+        Band {
             limit: -self.limit,
             ..*self
         }

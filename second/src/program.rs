@@ -6,8 +6,8 @@ use crate::plan::*;
 use crate::refusal::Refusal;
 use crate::steps;
 
-/// "The planning program reads at most 9,383 bytes of a plan file from standard
-/// input (one more than the longest file, so a longer one gets its refusal)".
+/// The planning program reads of a plan file from standard input "one more than
+/// the longest file, so a longer one gets its refusal": 10,151 bytes.
 pub const READ_AT_MOST: usize = file::LONGEST + 1;
 
 /// "prints exactly these lines, each ended by a line feed": what the planning

@@ -18,6 +18,13 @@ impl Random {
         Random { state: of_both }
     }
 
+    /// Another source beside this one, which stays as it is: what is drawn there changes nothing here.
+    pub fn aside(&self) -> Random {
+        Random {
+            state: self.state ^ 0x6C62_272E_07BB_0142,
+        }
+    }
+
     /// The next 64 random bits.
     pub fn bits(&mut self) -> u64 {
         self.state = self.state.wrapping_add(0x9E37_79B9_7F4A_7C15);

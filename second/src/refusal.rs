@@ -1,4 +1,4 @@
-//! Numbered refusals: the table of document 01, each number with its place.
+//! Numbered refusals: the table of document 01 and the numbers of document 02, each with its place.
 
 use std::fmt;
 
@@ -9,7 +9,7 @@ pub struct Refusal {
     pub place: usize,
 }
 
-/// The table, one name a line: its number, "given exactly when", and its place.
+/// One name a line: its number, "given exactly when", and its place.
 impl Refusal {
     /// "more than 256 tasks"
     pub const TOO_MANY_TASKS: Refusal = Refusal::new(1, 0);
@@ -61,8 +61,14 @@ impl Refusal {
     /// "a resource step names a place not in the list"
     pub const PLACE_NOT_IN_LIST: Refusal = Refusal::new(12, 0);
 
-    /// The table's last number.
-    pub const LAST_NUMBER: u32 = Refusal::PLACE_NOT_IN_LIST.number;
+    /// "a band out of order, beyond its ends, naming no resource, or a 65th, place
+    /// the first such band"
+    pub const fn band_outside(band: usize) -> Refusal {
+        Refusal::new(13, band)
+    }
+
+    /// The last number.
+    pub const LAST_NUMBER: u32 = Refusal::band_outside(0).number;
 
     pub const fn new(number: u32, place: usize) -> Refusal {
         Refusal { number, place }

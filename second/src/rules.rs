@@ -14,7 +14,7 @@ use crate::plan::{Plan, Range, Set, Task};
 use crate::refusal::Refusal;
 
 /// "Resource step, sense at least, resource r, limit L, day i": what its rules
-/// are taken from on every day.
+/// are taken from on every day. L is that day's.
 pub struct Step<'a> {
     /// The plan in sense at least, "the ranges as they entered that step".
     pub plan: &'a Plan,
@@ -78,6 +78,14 @@ impl Step<'_> {
 
     /// L on day i.
     fn limit_on(&self, i: i64) -> i64 {
+        if self.is_planted(Fault::BandDayLate) {
+            // What stood on the day before is what a band taken a day late leaves here.
+            return self.plan.limit_on(self.place, i - 1);
+        }
+        let first = self.plan.bands_of(self.place).next();
+        if let (Some(first), true) = (first, self.is_planted(Fault::FirstBandAlways)) {
+            return self.plan.limit_on(self.place, i.max(first.from));
+        }
         self.plan.limit_on(self.place, i)
     }
 

@@ -2,21 +2,28 @@
 
 use crate::plan::*;
 
-/// One line for the sense, each resource and each task.
+/// One line for the sense, each resource, each band and each task.
 pub fn of_plan(plan: &Plan) -> String {
     let sense = match plan.sense {
         Sense::AtMost => "at most",
         Sense::AtLeast => "at least",
     };
     let mut text = format!(
-        "sense {sense}, resources {}, tasks {}\n",
+        "sense {sense}, resources {}, bands {}, tasks {}\n",
         plan.resources.len(),
+        plan.bands.len(),
         plan.tasks.len()
     );
     for (place, resource) in plan.resources.iter().enumerate() {
         text += &format!(
             "resource {place}: identifier {}, limit {}\n",
             resource.id, resource.limit
+        );
+    }
+    for band in &plan.bands {
+        text += &format!(
+            "band {} from {} limit {}\n",
+            band.place, band.from, band.limit
         );
     }
     for (place, task) in plan.tasks.iter().enumerate() {

@@ -85,6 +85,7 @@ fn case_9() -> Plan {
     Plan {
         sense: Sense::AtLeast,
         resources: vec![Resource { id: 7, limit: 4 }, Resource { id: 9, limit: 3 }],
+        bands: Vec::new(),
         tasks: vec![
             wide(1, to(1, 2), to(2, 2), to(3, 4), to(0, 1)),
             wide(3, to(0, 6), to(2, 2), to(2, 8), to(0, 4)),

@@ -27,6 +27,17 @@ fn hope(task: &Task, r: usize, i: i64) -> i64 {
     }
 }
 
+/// The limit on day i, found by walking all bands: each that has begun takes the place of what stood before.
+fn limit(plan: &Plan, r: usize, i: i64) -> i64 {
+    let mut limit = plan.resources[r].limit;
+    for band in &plan.bands {
+        if band.place == r && i >= band.from {
+            limit = band.limit;
+        }
+    }
+    limit
+}
+
 /// What is left of one task: the set, and a list for each range.
 struct Lists {
     set: u64,
@@ -81,12 +92,14 @@ impl Lists {
 }
 
 /// None if there is no plan.
-fn narrowed(tasks: &[Task], place: usize, r: usize, l: i64) -> Option<Task> {
+fn narrowed(plan: &Plan, place: usize, r: usize) -> Option<Task> {
+    let tasks = &plan.tasks;
     let task = &tasks[place];
     let mut left = Lists::of(task);
     let first = tasks.iter().map(|task| task.origin.low).min()?;
     let last = tasks.iter().map(|task| task.end.high).max()?;
     for i in first..=last {
+        let l = limit(plan, r, i);
         let mut others = 0;
         for (other, task) in tasks.iter().enumerate() {
             if other != place {
@@ -116,9 +129,8 @@ fn plainest_step(plan: &Plan, r: usize) -> Option<Plan> {
     if plan.sense == Sense::AtMost {
         return plainest_step(&plan.negated(), r).map(|stepped| stepped.negated());
     }
-    let limit = plan.resources[r].limit;
     let tasks: Option<Vec<Task>> = (0..plan.tasks.len())
-        .map(|place| narrowed(&plan.tasks, place, r, limit))
+        .map(|place| narrowed(plan, place, r))
         .collect();
     Some(Plan {
         tasks: tasks?,

@@ -2,8 +2,8 @@
 
 mod support;
 
-use second::file::{read, read_with_room, unchecked_bytes, write, LONGEST};
-use second::plan::{DAYS, DURATIONS, MOST_RESOURCES, MOST_TASKS, POWERS};
+use second::file::{read, read_with_room, unchecked_bytes, write, Room, LONGEST};
+use second::plan::{DAYS, DURATIONS, MOST_BANDS, MOST_RESOURCES, MOST_TASKS, POWERS};
 use second::steps::{balance, pass, resource_step, settle};
 use second::{allowed, entry, program, Plan, Range, Refusal, Resource, Sense, Set, Task};
 use support::*;
@@ -51,6 +51,9 @@ fn sound_lists_pass() {
     most.resources = resources(MOST_RESOURCES, POWERS.low);
     let all = wide(Set::all(MOST_RESOURCES).0, DAYS, DURATIONS, DAYS, POWERS);
     most.tasks = vec![all; MOST_TASKS];
+    most.bands = (0..MOST_BANDS)
+        .map(|k| band(15, k as i64, POWERS.high))
+        .collect();
     assert_eq!(entry::check(&most), Ok(()));
 }
 
@@ -241,6 +244,7 @@ fn refusal_9_one_byte_after_the_longest_file() {
     let mut longest = sound();
     longest.resources = resources(MOST_RESOURCES, 0);
     longest.tasks = vec![sound().tasks[0]; MOST_TASKS];
+    longest.bands = (0..MOST_BANDS).map(|k| band(k / 4, k as i64, 0)).collect();
     let mut bytes = unchecked_bytes(&longest);
     assert_eq!(bytes.len(), LONGEST);
     assert!(program::answer(&bytes, None).starts_with("settled 1\n"));
@@ -259,8 +263,13 @@ fn counts_in_a_file_1_then_2_then_11_before_the_records() {
     read_refused(&head(0, resources + 1, 0), 2, 0);
     read_refused(&head(0, resources, tasks), 9, STARTS[1]);
     let most = head(0, resources, tasks);
+    let room = |resources, tasks| Room {
+        resources,
+        bands: 0,
+        tasks,
+    };
     let roomless = |bytes: &[u8], resource_room, task_room, number| {
-        let result = read_with_room(bytes, resource_room, task_room);
+        let result = read_with_room(bytes, room(resource_room, task_room));
         assert_eq!(result, refused(number, 0));
     };
     roomless(&most, resources - 1, tasks, 11);
@@ -268,7 +277,7 @@ fn counts_in_a_file_1_then_2_then_11_before_the_records() {
     roomless(&head(0, resources + 1, tasks), 0, 0, 2);
     roomless(&head(2, resources + 1, tasks), 0, 0, 8);
     let bytes = unchecked_bytes(&sound());
-    assert_eq!(read_with_room(&bytes, 3, 3), Ok(sound()));
+    assert_eq!(read_with_room(&bytes, room(3, 3)), Ok(sound()));
     roomless(&bytes, 2, 3, 11);
 }
 

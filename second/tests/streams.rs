@@ -4,10 +4,11 @@
 mod support;
 
 use second::fault::FAULTS;
-use second::file::{self, read, read_with_room, write};
+use second::file::{self, read, read_with_room, write, Room};
 use second::make::{plan_file, stream};
 use second::program::{answer, READ_AT_MOST};
 use second::random::Random;
+use second::Refusal;
 use std::collections::BTreeMap;
 use support::small_plan;
 
@@ -20,13 +21,23 @@ fn what_is_written_reads_back() {
         let plan = small_plan(&mut Random::new(31, n));
         let mut buffer = vec![9; 300];
         let length = write(&plan, &mut buffer).unwrap();
-        let (resources, tasks) = (plan.resources.len(), plan.tasks.len());
-        assert_eq!(length, file::length(resources, tasks));
+        let exact = Room {
+            resources: plan.resources.len(),
+            bands: plan.bands.len(),
+            tasks: plan.tasks.len(),
+        };
+        let due = file::length(exact.resources, exact.bands, exact.tasks);
+        assert_eq!(length, due);
         assert!(buffer[length..].iter().all(|byte| *byte == 9));
-        assert_eq!(
-            read_with_room(&buffer[..length], resources, tasks),
-            Ok(plan)
-        );
+        assert_eq!(read_with_room(&buffer[..length], exact), Ok(plan.clone()));
+        if exact.bands > 0 {
+            let fewer = Room {
+                bands: exact.bands - 1,
+                ..exact
+            };
+            let result = read_with_room(&buffer[..length], fewer);
+            assert_eq!(result, Err(Refusal::new(11, 0)));
+        }
     }
 }
 
@@ -66,7 +77,7 @@ fn a_stream_is_broad() {
         *heads.entry(format!("{} {}", head[0], head[1])).or_default() += 1;
     }
     assert_eq!(longest, READ_AT_MOST);
-    for number in [1, 2, 3, 4, 5, 6, 8, 9] {
+    for number in [1, 2, 3, 4, 5, 6, 8, 9, 13] {
         assert!(
             heads.contains_key(&format!("refused {number}")),
             "{number}: {heads:?}"
@@ -83,14 +94,37 @@ fn a_stream_is_broad() {
     assert!(heads["refused 7"] > COUNT / 10, "{heads:?}");
 }
 
+/// A good share of the plans has bands and a good share has none, and bands change answers.
+#[test]
+fn a_stream_has_plans_with_bands_and_without() {
+    let (mut banded, mut plain, mut changed, mut settled) = (0, 0, 0, 0);
+    for n in 0..COUNT {
+        let Ok(mut plan) = read(&plan_file(SEED, n)) else {
+            continue;
+        };
+        if plan.bands.is_empty() {
+            plain += 1;
+            continue;
+        }
+        banded += 1;
+        let with = answer(&file::unchecked_bytes(&plan), None);
+        plan.bands.clear();
+        let without = answer(&file::unchecked_bytes(&plan), None);
+        changed += u64::from(with != without);
+        settled += u64::from(with.starts_with("settled"));
+    }
+    let counts = format!("{banded} with, {plain} without, {changed} changed, {settled} settled");
+    assert!(banded > COUNT / 3 && plain > COUNT / 3, "{counts}");
+    assert!(changed > banded / 4 && settled > banded / 3, "{counts}");
+}
+
 #[test]
 fn every_planted_fault_changes_answers() {
+    let files: Vec<Vec<u8>> = (0..COUNT).map(|n| plan_file(SEED, n)).collect();
+    let answers: Vec<String> = files.iter().map(|file| answer(file, None)).collect();
     for (name, fault) in FAULTS {
-        let differs = |n: &u64| {
-            let file = plan_file(SEED, *n);
-            answer(&file, None) != answer(&file, Some(*fault))
-        };
-        let changed = (0..COUNT).filter(differs).count();
+        let differs = |(file, said): &(&Vec<u8>, &String)| answer(file, Some(*fault)) != **said;
+        let changed = files.iter().zip(&answers).filter(differs).count();
         assert!(changed > 5, "{name}: {changed}");
     }
 }

@@ -13,7 +13,7 @@ use Rattle.plan.specs.declared.Call.{Call}
 use Rattle.plan.specs.declared.Call.the-variants.{Check, Balance, Step, Pass, Settle}
 use Rattle.plan.specs.declared.Checked.{Checked}
 use Rattle.plan.specs.declared.Refusal.{Refusal}
-use Rattle.plan.specs.declared.Refusal.the-variants.{TooManyTasks, ResourceCount, RepeatedIdentifier, LimitOutside, RangeOutside, SetOutside, NoPlan, WrongMark, CutShort, BufferShort, ListShort, NoSuchResource}
+use Rattle.plan.specs.declared.Refusal.the-variants.{TooManyTasks, ResourceCount, RepeatedIdentifier, LimitOutside, RangeOutside, SetOutside, NoPlan, WrongMark, CutShort, BufferShort, ListShort, NoSuchResource, BandOutside}
 use Rattle.plan.specs.declared.Answer.{Answer}
 use Rattle.plan.specs.declared.Answer.the-variants.{Done, Refused}
 use Rattle.plan.specs.Refusals.{number, place}
@@ -65,6 +65,7 @@ number-some (CutShort k) = omega arith
 number-some BufferShort = omega arith
 number-some ListShort = omega arith
 number-some NoSuchResource = omega arith
+number-some (BandOutside k) = omega arith
 
 abbrev Small : Answer → Type 0
 Small (Done passes) = passes < 2 ^ 32
@@ -167,7 +168,7 @@ refusalOf n k =
     (if (eqb n 8) (WrongMark k)
     (if (eqb n 9) (CutShort k)
     (if (eqb n 10) BufferShort
-    (if (eqb n 11) ListShort NoSuchResource))))))))))
+    (if (eqb n 11) ListShort (if (eqb n 12) NoSuchResource (BandOutside k))))))))))))
 
 refusal-back : (f : Refusal) → refusalOf (number f) (place f) ≡ f
 refusal-back TooManyTasks = refl
@@ -182,6 +183,7 @@ refusal-back (CutShort k) = refl
 refusal-back BufferShort = refl
 refusal-back ListShort = refl
 refusal-back NoSuchResource = refl
+refusal-back (BandOutside k) = refl
 
 pub apart-once : (answer : ℕ) (a b : Answer) → Apart answer a → Apart answer b → a ≡ b
 apart-once answer (Done n) (Done m) h g = ap Done (sym (h .0) ∙ g .0)

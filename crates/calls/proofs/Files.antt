@@ -1,32 +1,38 @@
 -- A call on a plan file: refusal numbers are small, and each refusal in its turn.
-use mathlib.Core.Path.{_≡_, refl, sym}
-use mathlib.Core.Bool.{true, not}
+use mathlib.Core.Path.{_≡_, refl, sym, ap, _∙_}
+use mathlib.Core.Bool.{true, false, not}
 use mathlib.Core.List.{List}
 use Prim.Native.Nat.{ℕ, _≤_}
 use native.Mathlib.Omega.{arith}
 use lib.IntN.{ℤ}
-use lib.ListN.{length}
+use lib.ListN.{length, drop}
 use borrow.Author.Tests.{not-false}
 use Rattle.plan.specs.declared.Call.{Call}
 use Rattle.plan.specs.declared.Checked.{Checked}
 use Rattle.plan.specs.declared.Checked.the-variants.{Accepted}
 use Rattle.plan.specs.declared.Refusal.{Refusal}
-use Rattle.plan.specs.declared.Refusal.the-variants.{TooManyTasks, ResourceCount, RepeatedIdentifier, LimitOutside, RangeOutside, SetOutside, NoPlan, WrongMark, CutShort, BufferShort, ListShort, NoSuchResource}
+use Rattle.plan.specs.declared.Refusal.the-variants.{TooManyTasks, ResourceCount, RepeatedIdentifier, LimitOutside, RangeOutside, SetOutside, NoPlan, WrongMark, CutShort, BufferShort, ListShort, NoSuchResource, BandOutside}
 use Rattle.plan.specs.declared.Answer.{Answer}
 use Rattle.plan.specs.declared.Sense.{Sense}
 use Rattle.plan.specs.declared.Task.{Task}
 use Rattle.plan.specs.Refusals.{number}
+use Rattle.plan.specs.Tasks.{mostBands}
 use Rattle.rules.specs.Frame.{Frame, resourceCount}
 use Rattle.rules.specs.Calls.{placedIn, callOf, resultOf}
 use Rattle.rules.proofs.Checks.{past}
 use Rattle.rows.specs.View.{tasksOf, frameOf}
 use Rattle.rows.proofs.View.{length-resources}
-use Rattle.format.specs.Format.{fileLength}
+use Rattle.format.specs.declared.Header.{Header}
+use Rattle.format.specs.declared.Mark.the-variants.{LB}
+use Rattle.format.specs.Format.{marked, bandsFrom, fileLength}
+use Rattle.format.specs.Reading.{Read, bodyDue, readBody, readAfter}
 use Rattle.format.specs.Writing.{written, roomFor}
 use Rattle.format.proofs.Files.{rows-written}
-use Rattle.calls.specs.Files.{answerFile, lentDue, planCall, planFile, refusedFile}
+use Rattle.runs.proofs.Rooms.{no-bands}
+use Rattle.calls.specs.Rows.{Unbanded}
+use Rattle.calls.specs.Files.{answerFile, afterRead, lentDue, planCall, planFile, refusedFile, RowsAnswered, HeaderAnswered}
 
-pub number-small : (f : Refusal) → number f ≤ 12
+pub number-small : (f : Refusal) → number f ≤ 13
 number-small TooManyTasks = omega arith
 number-small ResourceCount = omega arith
 number-small (RepeatedIdentifier k) = omega arith
@@ -39,6 +45,7 @@ number-small (CutShort k) = omega arith
 number-small BufferShort = omega arith
 number-small ListShort = omega arith
 number-small NoSuchResource = omega arith
+number-small (BandOutside k) = omega arith
 
 -- ---- each refusal in its turn
 pub lent-is : (c : Call) (resources file out : ℕ) → lentDue c resources file out ≡ Accepted → (placedIn resources c ≡ true) × (roomFor file out ≡ Accepted)
@@ -48,8 +55,8 @@ lent-is c resources file out h =
     (not-false (placedIn resources c) (p .0), p .1)
 
 -- the rows' own lengths
-pub lent-rows : (c : Call) (sense : Sense) (q s : List (List ℤ)) (out : ℕ) → lentDue c (length q) (fileLength (length q) (length s)) out ≡ lentDue c (resourceCount (frameOf sense q)) (length (written (frameOf sense q) (tasksOf s))) out
-lent-rows c sense q s out = rw (rows-written sense q s, length-resources q)
+pub lent-rows : (c : Call) (sense : Sense) (q b s : List (List ℤ)) (out : ℕ) → lentDue c (length q) (fileLength (length q) (length b) (length s)) out ≡ lentDue c (resourceCount (frameOf sense q b)) (length (written (frameOf sense q b) (tasksOf s))) out
+lent-rows c sense q b s out = rw (rows-written sense q b s, length-resources q)
 
 module _ (c : Call) (f : Frame) (ts : List Task) (out : List ℕ) where
   abbrev due : Checked
@@ -66,3 +73,17 @@ module _ (c : Call) (f : Frame) (ts : List Task) (out : List ℕ) where
       told : (a : Answer) → answerFile f out (resultOf a ts us .answer) (resultOf a ts us .tasks) ≡ answerFile f out a us
       told (Answer.Done n) = refl
       told (Answer.Refused e) = refl
+
+-- ---- no band follows the resources
+pub unbanded-in : (h : Header) (file : List ℕ) → marked LB (drop (bandsFrom (h .resources)) file) ≡ false → Unbanded h file
+unfolding Unbanded
+unbanded-in h file m = m
+
+-- so what is read does not depend on the rows for bands
+pub unbanded-same : (h : Header) (file : List ℕ) → Unbanded h file → (room : ℕ) → readAfter room h file ≡ readAfter mostBands h file
+unfolding Unbanded readAfter readBody bodyDue
+unbanded-same h file m room = rw (no-bands room file (bandsFrom (h .resources)) m .0, no-bands mostBands file (bandsFrom (h .resources)) m .0)
+
+-- nor what a call answers
+pub unbanded-answered : (c : Call) (h : Header) (file out : List ℕ) {r : ℕ} {left : List ℕ} → Unbanded h file → RowsAnswered c 0 h file out r left → HeaderAnswered c h file out r left
+unbanded-answered c h file out m e = e ∙ ap (λ (x : Read). afterRead c out x) (unbanded-same h file m 0)

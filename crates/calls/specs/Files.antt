@@ -1,5 +1,5 @@
 -- A call on a plan file in memory: one number, and what the lent output holds then. Refusals come in the order of reading (`readPlan`: 8
--- and 9 as each record is due, 1 and 2 after the first, then 3 to 6), then 12 for a place, 10 for an output shorter than the file, then 7.
+-- and 9 as each record is due, 1 and 2 after the first, 13 for a 65th band, then 3, 4, 13, 5 and 6), then 12 for a place, 10 for an output shorter than the file, then 7.
 use mathlib.Core.Bool.{not}
 use mathlib.Core.List.{List}
 use mathlib.Core.Path.{_≡_}
@@ -15,6 +15,7 @@ use Rattle.plan.specs.declared.Answer.the-variants.{Done, Refused}
 use Rattle.plan.specs.Refusals.{number, place}
 use Rattle.rules.specs.Frame.{Frame, resourceCount}
 use Rattle.rules.specs.Calls.{orElse, refuseIf, Result, unlessRefused, placedIn, callOf}
+use Rattle.plan.specs.Tasks.{mostBands}
 use Rattle.format.specs.declared.Header.{Header}
 use Rattle.format.specs.Reading.{Read, readAfter, readPlan}
 use Rattle.format.specs.Writing.{written, laid, roomFor}
@@ -55,13 +56,17 @@ abbrev pub afterRead : Call → List ℕ → Read → FileResult
 afterRead c out (Read.Plan f ts) = planFile c f ts out
 afterRead c out (Read.Refuse e) = refusedFile e out
 
--- of a file whose header was read
-abbrev pub headerCall : Call → Header → List ℕ → List ℕ → FileResult
-headerCall c h file out = afterRead c out (readAfter h file)
+-- of a file whose header was read, in rows for so many bands
+abbrev pub headerCall : Call → ℕ → Header → List ℕ → List ℕ → FileResult
+headerCall c room h file out = afterRead c out (readAfter room h file)
 
 -- a call's promise once the header was read: its answer, and what it leaves of the output
+abbrev pub RowsAnswered : Call → ℕ → Header → List ℕ → List ℕ → ℕ → List ℕ → Type 0
+RowsAnswered c room h file out r left = fileResult r left ≡ headerCall c room h file out
+
+-- as the page says it
 abbrev pub HeaderAnswered : Call → Header → List ℕ → List ℕ → ℕ → List ℕ → Type 0
-HeaderAnswered c h file out r left = fileResult r left ≡ headerCall c h file out
+HeaderAnswered c h file out r left = RowsAnswered c mostBands h file out r left
 
 unfoldable pub fileCall : Call → List ℕ → List ℕ → FileResult
 fileCall c file out = afterRead c out (readPlan file)

@@ -1,22 +1,27 @@
 // Calls on a plan file in memory, each with one number as its answer: what the functions for other languages do.
 ghost use mathlib.Core.Path.{_≡_};
 ghost use Prim.Native.Nat.{_≤_};
-ghost use lib.ListN.{length};
+ghost use lib.ListN.{length, drop};
 ghost use Rattle.plan.specs.declared.Answer.the-variants.{Refused};
-ghost use Rattle.plan.specs.Tasks.{mostResources, mostTasks};
+ghost use Rattle.plan.specs.Tasks.{mostResources, mostBands, mostTasks};
 ghost use Rattle.rows.specs.View.{tasksOf, frameOf};
 ghost use Rattle.profile.specs.Lent.{Lent};
 ghost use Rattle.passes.specs.Ready.{Ready};
-ghost use Rattle.format.specs.Format.{fileLength};
-ghost use Rattle.calls.specs.Files.{answerNumber, fileResult, lentDue, planFile, HeaderAnswered, fileCall, checkFile};
+ghost use Rattle.format.specs.declared.Mark.the-variants.{LB};
+ghost use Rattle.format.specs.Format.{marked, bandsFrom, fileLength};
+ghost use Rattle.calls.specs.Files.{answerNumber, fileResult, lentDue, planFile, RowsAnswered, HeaderAnswered, fileCall, checkFile};
 ghost use Rattle.calls.specs.Rows.{Counted, small, middle, wide};
+use cursor::Cursor;
 use events::EVENTS_A_TASK;
 use format::Header;
 use format::HeaderAnswer;
+use format::Mark;
+use format::Run;
 use format::table;
 use plan::Answer;
 use plan::Call;
 use plan::Checked;
+use plan::MOST_BANDS;
 use plan::MOST_RESOURCES;
 use plan::MOST_TASKS;
 use plan::Refusal;
@@ -24,6 +29,8 @@ use plan::Sense;
 use profile::MOST_KEYS;
 use profile::MOST_SPARE;
 use profile::MOST_STRETCHES;
+use rows::BAND_CELLS;
+use rows::BandRow;
 use rows::RESOURCE_CELLS;
 use rows::ResourceRow;
 use rows::TASK_CELLS;
@@ -41,14 +48,14 @@ fn refusal_number(f: Refusal) -> u64
 }
 
 // 12 for a place, 10 for an output shorter than the file.
-fn check_lent(c: Call, resources: usize, tasks: usize, out: usize) -> Checked
-    requires { ⌜ (resources ≤ mostResources) × (tasks ≤ mostTasks) ⌝ }
-    ensures { λ r. ⌜ r ≡ lentDue c resources (fileLength resources tasks) out ⌝ }
+fn check_lent(c: Call, resources: usize, bands: usize, tasks: usize, out: usize) -> Checked
+    requires { ⌜ (resources ≤ mostResources) × (bands ≤ mostBands) × (tasks ≤ mostTasks) ⌝ }
+    ensures { λ r. ⌜ r ≡ lentDue c resources (fileLength resources bands tasks) out ⌝ }
 {
     if !engine::is_placed(c, resources) {
         return Checked::Refused(Refusal::NoSuchResource);
     }
-    writer::room_for(resources, tasks, out)
+    writer::room_for(resources, bands, tasks, out)
 }
 
 // A call on a plan that passed the checks.
@@ -56,29 +63,67 @@ fn apply_to_plan(
     c: Call,
     sense: Sense,
     q: &mut [ResourceRow],
+    b: &mut [BandRow],
     s: &mut [TaskRow],
     keys: &mut [u64],
     spare: &mut [u64],
     ss: &mut [StretchRow],
     out: &mut [u8],
 ) -> u64
-    requires { ⌜ Ready (now q) (now s) (now keys) (now spare) (now ss) ⌝ }
-    ensures { λ r. ⌜ fileResult r (now (out .exit)) ≡ planFile c (frameOf sense (now (q .entry))) (tasksOf (now (s .entry))) (now (out .entry)) ⌝ }
+    requires { ⌜ Ready (now q) (now b) (now s) (now keys) (now spare) (now ss) ⌝ }
+    ensures { λ r. ⌜ fileResult r (now (out .exit)) ≡ planFile c (frameOf sense (now (q .entry)) (now (b .entry))) (tasksOf (now (s .entry))) (now (out .entry)) ⌝ }
 {
-    match check_lent(c, q.len(), s.len(), out.len()) {
+    match check_lent(c, q.len(), b.len(), s.len(), out.len()) {
         Checked::Refused(f) => refusal_number(f),
-        Checked::Accepted => match engine::apply(c, sense, q, s, keys, spare, ss) {
+        Checked::Accepted => match engine::apply(c, sense, q, b, s, keys, spare, ss) {
             Answer::Refused(f) => refusal_number(f),
             Answer::Done(n) => {
-                writer::put_plan(sense, q, s, out);
+                writer::put_plan(sense, q, b, s, out);
                 n
             }
         },
     }
 }
 
-// A call on a plan file whose header was read, in rows for what it counts.
+// A call on a plan file whose header was read, in rows for what it counts and for so many bands.
 fn apply_in_rows(
+    c: Call,
+    file: &[u8],
+    h: Header,
+    q: &mut [ResourceRow],
+    b: &mut [BandRow],
+    s: &mut [TaskRow],
+    keys: &mut [u64],
+    spare: &mut [u64],
+    ss: &mut [StretchRow],
+    out: &mut [u8],
+) -> u64
+    requires { ⌜ (h .resources ≤ length (now q)) × (h .tasks ≤ length (now s)) ⌝ }
+    requires { ⌜ Lent (length (now s)) (length (now b)) (length (now keys)) (length (now spare)) (length (now ss)) ⌝ }
+    ensures { λ r. ⌜ RowsAnswered c (length (now (b .entry))) h (now (file .entry)) (now (out .entry)) r (now (out .exit)) ⌝ }
+{
+    match file::read_rest(file, h, q, b, s) {
+        Run::Refused(f) => refusal_number(f),
+        Run::Through(k) => {
+            let n = h.resources;
+            let m = h.tasks;
+            apply_to_plan(
+                c,
+                table::sense_from(h.sense),
+                &mut q[..n],
+                &mut b[..k],
+                &mut s[..m],
+                keys,
+                spare,
+                ss,
+                out,
+            )
+        }
+    }
+}
+
+// The same where no band follows the resources: no row is lent for one.
+fn apply_unbanded(
     c: Call,
     file: &[u8],
     h: Header,
@@ -90,30 +135,15 @@ fn apply_in_rows(
     out: &mut [u8],
 ) -> u64
     requires { ⌜ (h .resources ≤ length (now q)) × (h .tasks ≤ length (now s)) ⌝ }
-    requires { ⌜ Lent (length (now s)) (length (now keys)) (length (now spare)) (length (now ss)) ⌝ }
-    ensures { λ r. ⌜ HeaderAnswered c h (now (file .entry)) (now (out .entry)) r (now (out .exit)) ⌝ }
+    requires { ⌜ Lent (length (now s)) 0 (length (now keys)) (length (now spare)) (length (now ss)) ⌝ }
+    ensures { λ r. ⌜ RowsAnswered c 0 h (now (file .entry)) (now (out .entry)) r (now (out .exit)) ⌝ }
 {
-    match file::read_rest(file, h, q, s) {
-        Checked::Refused(f) => refusal_number(f),
-        Checked::Accepted => {
-            let n = h.resources;
-            let m = h.tasks;
-            apply_to_plan(
-                c,
-                table::sense_from(h.sense),
-                &mut q[..n],
-                &mut s[..m],
-                keys,
-                spare,
-                ss,
-                out,
-            )
-        }
-    }
+    let mut none: [BandRow; 0] = [];
+    apply_in_rows(c, file, h, q, &mut none, s, keys, spare, ss, out)
 }
 
-// ---- rows as the header asks: clearing rows that a small plan never uses would be most of its time. The four functions differ in their
-// array lengths alone, which the language can't take as a parameter.
+// ---- rows as the header asks: clearing rows that a small plan never uses would be most of its time, and so would be rows for bands in a
+// plan that has none. The functions differ in their array lengths alone, which the language can't take as a parameter.
 
 pub const SMALL: usize = 16;
 
@@ -125,7 +155,7 @@ pub const SMALL_STRETCHES: usize = SMALL_KEYS + 1;
 
 fn apply_small(c: Call, file: &[u8], h: Header, out: &mut [u8]) -> u64
     requires { ⌜ Counted h small ⌝ }
-    ensures { λ r. ⌜ HeaderAnswered c h (now (file .entry)) (now (out .entry)) r (now (out .exit)) ⌝ }
+    ensures { λ r. ⌜ RowsAnswered c 0 h (now (file .entry)) (now (out .entry)) r (now (out .exit)) ⌝ }
 {
     let resource = [0i64; RESOURCE_CELLS];
     let task = [0i64; TASK_CELLS];
@@ -135,7 +165,7 @@ fn apply_small(c: Call, file: &[u8], h: Header, out: &mut [u8]) -> u64
     let mut keys = [0u64; SMALL_KEYS];
     let mut spare = [0u64; SMALL_SPARE];
     let mut stretches = [stretch; SMALL_STRETCHES];
-    apply_in_rows(
+    apply_unbanded(
         c,
         file,
         h,
@@ -158,7 +188,7 @@ pub const MIDDLE_STRETCHES: usize = MIDDLE_KEYS + 1;
 
 fn apply_middle(c: Call, file: &[u8], h: Header, out: &mut [u8]) -> u64
     requires { ⌜ Counted h middle ⌝ }
-    ensures { λ r. ⌜ HeaderAnswered c h (now (file .entry)) (now (out .entry)) r (now (out .exit)) ⌝ }
+    ensures { λ r. ⌜ RowsAnswered c 0 h (now (file .entry)) (now (out .entry)) r (now (out .exit)) ⌝ }
 {
     let resource = [0i64; RESOURCE_CELLS];
     let task = [0i64; TASK_CELLS];
@@ -168,7 +198,7 @@ fn apply_middle(c: Call, file: &[u8], h: Header, out: &mut [u8]) -> u64
     let mut keys = [0u64; MIDDLE_KEYS];
     let mut spare = [0u64; MIDDLE_SPARE];
     let mut stretches = [stretch; MIDDLE_STRETCHES];
-    apply_in_rows(
+    apply_unbanded(
         c,
         file,
         h,
@@ -191,7 +221,7 @@ pub const WIDE_STRETCHES: usize = WIDE_KEYS + 1;
 
 fn apply_wide(c: Call, file: &[u8], h: Header, out: &mut [u8]) -> u64
     requires { ⌜ Counted h wide ⌝ }
-    ensures { λ r. ⌜ HeaderAnswered c h (now (file .entry)) (now (out .entry)) r (now (out .exit)) ⌝ }
+    ensures { λ r. ⌜ RowsAnswered c 0 h (now (file .entry)) (now (out .entry)) r (now (out .exit)) ⌝ }
 {
     let resource = [0i64; RESOURCE_CELLS];
     let task = [0i64; TASK_CELLS];
@@ -201,7 +231,7 @@ fn apply_wide(c: Call, file: &[u8], h: Header, out: &mut [u8]) -> u64
     let mut keys = [0u64; WIDE_KEYS];
     let mut spare = [0u64; WIDE_SPARE];
     let mut stretches = [stretch; WIDE_STRETCHES];
-    apply_in_rows(
+    apply_unbanded(
         c,
         file,
         h,
@@ -214,14 +244,116 @@ fn apply_wide(c: Call, file: &[u8], h: Header, out: &mut [u8]) -> u64
     )
 }
 
+pub const LARGE_KEYS: usize = MOST_TASKS * EVENTS_A_TASK;
+
+pub const LARGE_SPARE: usize = LARGE_KEYS / 2;
+
+pub const LARGE_STRETCHES: usize = LARGE_KEYS + 1;
+
 fn apply_large(c: Call, file: &[u8], h: Header, out: &mut [u8]) -> u64
     requires { ⌜ Counted h mostTasks ⌝ }
-    ensures { λ r. ⌜ HeaderAnswered c h (now (file .entry)) (now (out .entry)) r (now (out .exit)) ⌝ }
+    ensures { λ r. ⌜ RowsAnswered c 0 h (now (file .entry)) (now (out .entry)) r (now (out .exit)) ⌝ }
 {
     let resource = [0i64; RESOURCE_CELLS];
     let task = [0i64; TASK_CELLS];
     let stretch = [0i64; STRETCH_CELLS];
     let mut resources = [resource; MOST_RESOURCES];
+    let mut tasks = [task; MOST_TASKS];
+    let mut keys = [0u64; LARGE_KEYS];
+    let mut spare = [0u64; LARGE_SPARE];
+    let mut stretches = [stretch; LARGE_STRETCHES];
+    apply_unbanded(
+        c,
+        file,
+        h,
+        &mut resources,
+        &mut tasks,
+        &mut keys,
+        &mut spare,
+        &mut stretches,
+        out,
+    )
+}
+
+// The same with rows for bands.
+pub const BANDED_SMALL_KEYS: usize = SMALL_KEYS + MOST_BANDS;
+
+pub const BANDED_SMALL_SPARE: usize = BANDED_SMALL_KEYS / 2;
+
+pub const BANDED_SMALL_STRETCHES: usize = BANDED_SMALL_KEYS + 1;
+
+fn apply_banded_small(c: Call, file: &[u8], h: Header, out: &mut [u8]) -> u64
+    requires { ⌜ Counted h small ⌝ }
+    ensures { λ r. ⌜ HeaderAnswered c h (now (file .entry)) (now (out .entry)) r (now (out .exit)) ⌝ }
+{
+    let resource = [0i64; RESOURCE_CELLS];
+    let band = [0i64; BAND_CELLS];
+    let task = [0i64; TASK_CELLS];
+    let stretch = [0i64; STRETCH_CELLS];
+    let mut resources = [resource; MOST_RESOURCES];
+    let mut bands = [band; MOST_BANDS];
+    let mut tasks = [task; SMALL];
+    let mut keys = [0u64; BANDED_SMALL_KEYS];
+    let mut spare = [0u64; BANDED_SMALL_SPARE];
+    let mut stretches = [stretch; BANDED_SMALL_STRETCHES];
+    apply_in_rows(
+        c,
+        file,
+        h,
+        &mut resources,
+        &mut bands,
+        &mut tasks,
+        &mut keys,
+        &mut spare,
+        &mut stretches,
+        out,
+    )
+}
+
+pub const BANDED_MIDDLE_KEYS: usize = MIDDLE_KEYS + MOST_BANDS;
+
+pub const BANDED_MIDDLE_SPARE: usize = BANDED_MIDDLE_KEYS / 2;
+
+pub const BANDED_MIDDLE_STRETCHES: usize = BANDED_MIDDLE_KEYS + 1;
+
+fn apply_banded_middle(c: Call, file: &[u8], h: Header, out: &mut [u8]) -> u64
+    requires { ⌜ Counted h middle ⌝ }
+    ensures { λ r. ⌜ HeaderAnswered c h (now (file .entry)) (now (out .entry)) r (now (out .exit)) ⌝ }
+{
+    let resource = [0i64; RESOURCE_CELLS];
+    let band = [0i64; BAND_CELLS];
+    let task = [0i64; TASK_CELLS];
+    let stretch = [0i64; STRETCH_CELLS];
+    let mut resources = [resource; MOST_RESOURCES];
+    let mut bands = [band; MOST_BANDS];
+    let mut tasks = [task; MIDDLE];
+    let mut keys = [0u64; BANDED_MIDDLE_KEYS];
+    let mut spare = [0u64; BANDED_MIDDLE_SPARE];
+    let mut stretches = [stretch; BANDED_MIDDLE_STRETCHES];
+    apply_in_rows(
+        c,
+        file,
+        h,
+        &mut resources,
+        &mut bands,
+        &mut tasks,
+        &mut keys,
+        &mut spare,
+        &mut stretches,
+        out,
+    )
+}
+
+fn apply_banded_large(c: Call, file: &[u8], h: Header, out: &mut [u8]) -> u64
+    requires { ⌜ Counted h mostTasks ⌝ }
+    ensures { λ r. ⌜ HeaderAnswered c h (now (file .entry)) (now (out .entry)) r (now (out .exit)) ⌝ }
+{
+    let resource = [0i64; RESOURCE_CELLS];
+    let band = [0i64; BAND_CELLS];
+    let task = [0i64; TASK_CELLS];
+    let stretch = [0i64; STRETCH_CELLS];
+    let mut resources = [resource; MOST_RESOURCES];
+    let mut bands = [band; MOST_BANDS];
     let mut tasks = [task; MOST_TASKS];
     let mut keys = [0u64; MOST_KEYS];
     let mut spare = [0u64; MOST_SPARE];
@@ -231,6 +363,7 @@ fn apply_large(c: Call, file: &[u8], h: Header, out: &mut [u8]) -> u64
         file,
         h,
         &mut resources,
+        &mut bands,
         &mut tasks,
         &mut keys,
         &mut spare,
@@ -239,29 +372,68 @@ fn apply_large(c: Call, file: &[u8], h: Header, out: &mut [u8]) -> u64
     )
 }
 
-// Larger rows, for at least as many tasks as the header counts. It is called from two places, each with a number that the compiler can't know,
-// so that these rows, 64 KB for the most, stay out of the frame of every smaller call: each call touches its whole frame, page by page.
+// Rows with bands, for at least as many tasks as the header counts.
+fn apply_banded(c: Call, least: usize, file: &[u8], h: Header, out: &mut [u8]) -> u64
+    requires { ⌜ Counted h mostTasks × (h .tasks ≤ least) ⌝ }
+    ensures { λ r. ⌜ HeaderAnswered c h (now (file .entry)) (now (out .entry)) r (now (out .exit)) ⌝ }
+{
+    if least <= SMALL {
+        return apply_banded_small(c, file, h, out);
+    }
+    if least <= MIDDLE {
+        return apply_banded_middle(c, file, h, out);
+    }
+    apply_banded_large(c, file, h, out)
+}
+
+// Whether a band follows so many resources.
+fn has_bands(file: &[u8], resources: usize) -> bool
+    requires { ⌜ resources ≤ mostResources ⌝ }
+    ensures { λ r. ⌜ r ≡ marked LB (drop (bandsFrom resources) (now (file .entry))) ⌝ }
+{
+    let first = Cursor {
+        at: table::bands_from(resources),
+    };
+    first.stands_before(Mark::LB, file)
+}
+
+// Larger rows, for at least as many tasks as the header counts, or rows with bands. It is called from two places, each with a number that the
+// compiler can't know, so that these rows, 68 KB for the most, stay out of the frame of every smaller call: each call touches its whole frame,
+// page by page.
 fn apply_more(c: Call, least: usize, file: &[u8], h: Header, out: &mut [u8]) -> u64
     requires { ⌜ Counted h mostTasks × (h .tasks ≤ least) ⌝ }
     ensures { λ r. ⌜ HeaderAnswered c h (now (file .entry)) (now (out .entry)) r (now (out .exit)) ⌝ }
 {
+    if has_bands(file, h.resources) {
+        return apply_banded(c, least, file, h, out);
+    }
     if least <= WIDE {
         return apply_wide(c, file, h, out);
     }
     apply_large(c, file, h, out)
 }
 
-fn apply_counted(c: Call, file: &[u8], h: Header, out: &mut [u8]) -> u64
-    requires { ⌜ Counted h mostTasks ⌝ }
-    ensures { λ r. ⌜ HeaderAnswered c h (now (file .entry)) (now (out .entry)) r (now (out .exit)) ⌝ }
+// Rows for few tasks, where no band follows the resources.
+fn apply_few(c: Call, file: &[u8], h: Header, out: &mut [u8]) -> u64
+    requires { ⌜ Counted h middle ⌝ }
+    ensures { λ r. ⌜ RowsAnswered c 0 h (now (file .entry)) (now (out .entry)) r (now (out .exit)) ⌝ }
 {
     if h.tasks <= SMALL {
         return apply_small(c, file, h, out);
     }
+    apply_middle(c, file, h, out)
+}
+
+fn apply_counted(c: Call, file: &[u8], h: Header, out: &mut [u8]) -> u64
+    requires { ⌜ Counted h mostTasks ⌝ }
+    ensures { λ r. ⌜ HeaderAnswered c h (now (file .entry)) (now (out .entry)) r (now (out .exit)) ⌝ }
+{
     if h.tasks <= MIDDLE {
-        return apply_middle(c, file, h, out);
+        if !has_bands(file, h.resources) {
+            return apply_few(c, file, h, out);
+        }
     }
-    let end = table::file_length(h.resources, h.tasks);
+    let end = table::file_length(h.resources, 0, h.tasks);
     if file.len() < end {
         // Cut short, so refused in any rows. The bytes that it should have are more than its tasks.
         return apply_more(c, end, file, h, out);
@@ -286,15 +458,17 @@ pub fn check_file(file: &[u8]) -> u64
     ensures { λ r. ⌜ r ≡ checkFile (now (file .entry)) ⌝ }
 {
     let resource = [0i64; RESOURCE_CELLS];
+    let band = [0i64; BAND_CELLS];
     let task = [0i64; TASK_CELLS];
     let mut resources = [resource; MOST_RESOURCES];
+    let mut bands = [band; MOST_BANDS];
     let mut tasks = [task; MOST_TASKS];
     match file::read_header(file) {
         HeaderAnswer::Refused(f) => refusal_number(f),
         HeaderAnswer::Counts(h) => {
-            match file::read_rest(file, h, &mut resources, &mut tasks) {
-                Checked::Refused(f) => refusal_number(f),
-                Checked::Accepted => 0,
+            match file::read_rest(file, h, &mut resources, &mut bands, &mut tasks) {
+                Run::Refused(f) => refusal_number(f),
+                Run::Through(_) => 0,
             }
         }
     }

@@ -4,9 +4,11 @@ use mathlib.Core.List.{List, _++_}
 use lib.ListN.{length, take, replicate}
 use Rattle.plan.specs.declared.Task.{Task}
 use Rattle.plan.specs.declared.Resource.{Resource}
-use Rattle.plan.specs.Tasks.{mostTasks, mostResources, noTask, noResource}
+use Rattle.plan.specs.declared.Band.{Band}
+use Rattle.plan.specs.Tasks.{mostTasks, mostResources, mostBands, noTask, noResource, noBand}
 use Rattle.copies.specs.declared.Tasks.{Tasks}
 use Rattle.copies.specs.declared.Resources.{Resources}
+use Rattle.copies.specs.declared.Bands.{Bands}
 
 -- the first n of a list, filled up to n with d
 unfoldable pub firsts : {A : Type 0} → ℕ → A → List A → List A
@@ -17,3 +19,6 @@ loadedTasks ts = record { list = firsts mostTasks noTask ts; count = length ts }
 
 unfoldable pub loadedResources : List Resource → Resources
 loadedResources qs = record { list = firsts mostResources noResource qs; count = length qs }
+
+unfoldable pub loadedBands : List Band → Bands
+loadedBands bs = record { list = firsts mostBands noBand bs; count = length bs }

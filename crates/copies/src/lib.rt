@@ -3,9 +3,11 @@ ghost use mathlib.Core.Path.{_≡_};
 ghost use Prim.Native.Nat.{_≤_, min};
 ghost use mathlib.Core.List.{_++_};
 ghost use lib.ListN.{length, take, drop};
-ghost use Rattle.plan.specs.Tasks.{mostTasks, mostResources, noTask, noResource};
-ghost use Rattle.copies.specs.Loaded.{loadedTasks, loadedResources};
+ghost use Rattle.plan.specs.Tasks.{mostTasks, mostResources, mostBands, noTask, noResource, noBand};
+ghost use Rattle.copies.specs.Loaded.{loadedTasks, loadedResources, loadedBands};
+use plan::Band;
 use plan::Day;
+use plan::MOST_BANDS;
 use plan::MOST_RESOURCES;
 use plan::MOST_TASKS;
 use plan::Power;
@@ -23,6 +25,12 @@ pub struct Tasks {
 // The first resources of a list, and how many the list has in truth.
 pub struct Resources {
     pub list: [Resource; MOST_RESOURCES],
+    pub count: usize,
+}
+
+// The first bands of a list, and how many the list has in truth.
+pub struct Bands {
+    pub list: [Band; MOST_BANDS],
     pub count: usize,
 }
 
@@ -47,6 +55,18 @@ pub fn no_resource() -> Resource
 {
     let p = Power(0);
     Resource { id: 0, limit: p }
+}
+
+pub fn no_band() -> Band
+    ensures { λ r. ⌜ r ≡ noBand ⌝ }
+{
+    let d = Day(0);
+    let p = Power(0);
+    Band {
+        place: 0,
+        from: d,
+        limit: p,
+    }
 }
 
 pub fn fewer_of(a: usize, b: usize) -> usize
@@ -89,6 +109,23 @@ pub fn load_resources(resources: &[Resource]) -> Resources
     }
 }
 
+pub fn load_bands(bands: &[Band]) -> Bands
+    ensures { λ r. ⌜ r ≡ loadedBands (now (bands .entry)) ⌝ }
+{
+    let none = no_band();
+    let mut list = [none; MOST_BANDS];
+    let n = fewer_of(bands.len(), MOST_BANDS);
+    let mut i: usize = 0;
+    while i < n {
+        list[i] = bands[i];
+        i += 1;
+    }
+    Bands {
+        list: list,
+        count: bands.len(),
+    }
+}
+
 pub fn store_tasks(tasks: &mut [Task], list: [Task; MOST_TASKS], n: usize)
     requires { ⌜ (n ≤ mostTasks) × (n ≤ length (now tasks)) ⌝ }
     ensures { λ _. ⌜ now (tasks .exit) ≡ take n list ++ drop n (now (tasks .entry)) ⌝ }
@@ -107,6 +144,17 @@ pub fn store_resources(resources: &mut [Resource], list: [Resource; MOST_RESOURC
     let mut i: usize = 0;
     while i < n {
         resources[i] = list[i];
+        i += 1;
+    }
+}
+
+pub fn store_bands(bands: &mut [Band], list: [Band; MOST_BANDS], n: usize)
+    requires { ⌜ (n ≤ mostBands) × (n ≤ length (now bands)) ⌝ }
+    ensures { λ _. ⌜ now (bands .exit) ≡ take n list ++ drop n (now (bands .entry)) ⌝ }
+{
+    let mut i: usize = 0;
+    while i < n {
+        bands[i] = list[i];
         i += 1;
     }
 }

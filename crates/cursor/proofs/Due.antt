@@ -1,29 +1,31 @@
 -- What is due, told from what the cursor hands out: one law for every mark.
 use mathlib.Core.Path.{_≡_, refl, sym, ap, _∙_, subst}
 use mathlib.Core.Bool.{true, false, not}
-use mathlib.Core.List.{List}
-use Prim.Native.Nat.{ℕ, _+_, _-_, _≤_}
+use mathlib.Core.List.{List, [], _∷_}
+use Prim.Native.Nat.{ℕ, _+_, _-_, _≤_, _<_}
+use native.Mathlib.Nat.{not-suc-le-zero, le-of-suc-le-suc}
 use native.Mathlib.Omega.{arith}
 use lib.Dec.{T, eqb, ltb}
 use lib.ListN.{length, getD, take, drop, length-drop, drop-of-length-le}
 use lib.Seq.{take-all}
 use mir.Val.{hasKey}
-use borrow.Author.Tests.{eqb-true, le-ltb, ltb-false}
+use borrow.Author.Tests.{eqb-true, le-ltb, ltb-true, ltb-false}
 use types.Run.{OneOf, miss}
 use denote.Enum.Declared
 use Rattle.cursor.proofs.Record as Record'
 use Rattle.integers.specs.Tests.{if}
-use Rattle.integers.proofs.Tests.{clash, by-cases, and-first, and-second}
+use Rattle.integers.proofs.Tests.{clash, by-cases, and-first, and-second, and-off}
 use Rattle.plan.specs.declared.Checked.{Checked}
 use Rattle.plan.specs.declared.Checked.the-variants.{Accepted, Refused}
 use Rattle.plan.specs.declared.Refusal.the-variants.{WrongMark, CutShort}
 use Rattle.plan.specs.declared.Resource.{Resource}
+use Rattle.plan.specs.declared.Band.{Band}
 use Rattle.plan.specs.declared.Task.{Task}
 use Rattle.rules.specs.Calls.{refuseIf}
 use Rattle.format.specs.declared.Mark.{Mark}
-use Rattle.format.specs.declared.Mark.the-variants.{PL, RS, TK}
+use Rattle.format.specs.declared.Mark.the-variants.{PL, RS, LB, TK}
 use Rattle.format.specs.declared.Header.{Header}
-use Rattle.format.specs.Format.{mark, markSize, marked, size, numbersIn, headerFrom, resourceFrom, taskFrom}
+use Rattle.format.specs.Format.{mark, markSize, marked, size, numbersIn, headerFrom, resourceFrom, bandFrom, taskFrom}
 use Rattle.format.specs.Reading.{due}
 use Rattle.format.proofs.Records.{due-is}
 use Rattle.cursor.specs.declared.Cursor.{Cursor}
@@ -31,9 +33,12 @@ use Rattle.cursor.specs.declared.Record.{Record}
 use Rattle.cursor.specs.Handed.{cursor, recordIn, recordOf, standing, handed, recordAt, sameMark, notDue}
 
 -- ---- the rest of a file from a place on, as the code lends it; past the end there is none
+pub rest-is : (file : List ℕ) (at : ℕ) → take (length file - at) (drop at file) ≡ drop at file
+rest-is file at = take-all (length file - at) (drop at file) (omega (arith, length-drop at file))
+
 pub rest-handed : (file : List ℕ) (at : ℕ) → handed at (take (length file - at) (drop at file)) ≡ recordAt file at
 unfolding recordAt
-rest-handed file at = ap (handed at) (take-all (length file - at) (drop at file) (omega (arith, length-drop at file)))
+rest-handed file at = ap (handed at) (rest-is file at)
 
 pub rest-none : (file : List ℕ) (at : ℕ) → length file ≤ at → Record.Ended ≡ recordAt file at
 unfolding recordAt handed
@@ -56,13 +61,15 @@ self : (k : Mark) → sameMark k k ≡ true
 unfolding marked
 self PL = refl
 self RS = refl
+self LB = refl
 self TK = refl
 
 found : (k : Mark) (bs : List ℕ) → marked k bs ≡ true → standing bs ≡ k
 unfolding standing marked
 found PL bs m = rw m
 found RS bs m = rw (stands RS PL bs m, m)
-found TK bs m = rw (stands TK PL bs m, stands TK RS bs m)
+found LB bs m = rw (stands LB PL bs m, stands LB RS bs m, m)
+found TK bs m = rw (stands TK PL bs m, stands TK RS bs m, stands TK LB bs m)
 
 pub handed-marked : (k : Mark) (at : ℕ) (bs : List ℕ) → markSize ≤ length bs → marked k bs ≡ true → handed at bs ≡ recordOf k at bs
 unfolding handed
@@ -75,6 +82,23 @@ handed-due k at bs h =
     (λ e. let f : false ≡ true = rw e at h in clash false f refl)
     (λ e. handed-marked k at bs (ltb-false (length bs) markSize e) (rw e at h))
 
+-- such a test is one of the mark alone: fewer than two bytes hold none, since a mark's second byte is not 0
+second-some : (k : Mark) → eqb 0 (getD (mark k) 1 0) ≡ false
+second-some PL = refl
+second-some RS = refl
+second-some LB = refl
+second-some TK = refl
+
+short-unmarked : (k : Mark) (bs : List ℕ) → length bs < markSize → marked k bs ≡ false
+unfolding marked
+short-unmarked k [] h = rw (second-some k) (and-off (eqb 0 (getD (mark k) 0 0)))
+short-unmarked k (a ∷ []) h = rw (second-some k) (and-off (eqb a (getD (mark k) 0 0)))
+short-unmarked k (a ∷ b ∷ bs) h = absurd (not-suc-le-zero (le-of-suc-le-suc (le-of-suc-le-suc h)))
+
+pub mark-told : (k : Mark) (bs : List ℕ) → if (ltb (length bs) markSize) false (marked k bs) ≡ marked k bs
+mark-told k bs =
+    by-cases (ltb (length bs) markSize) (λ e. rw (e, short-unmarked k bs (ltb-true (length bs) markSize e))) (λ e. rw e)
+
 whole-record : (k : Mark) (at : ℕ) (bs : List ℕ) → size k ≤ length bs → recordOf k at bs ≡ recordIn k at bs
 whole-record k at bs h = rw (le-ltb (length bs) (size k) h)
 
@@ -82,6 +106,7 @@ whole-record k at bs h = rw (le-ltb (length bs) (size k) h)
 abbrev asDue : Mark → ℕ → Record → Checked
 asDue k at (Record.Plan h c) = if (sameMark PL k) Accepted (Refused (WrongMark at))
 asDue k at (Record.Resource q c) = if (sameMark RS k) Accepted (Refused (WrongMark at))
+asDue k at (Record.Band b c) = if (sameMark LB k) Accepted (Refused (WrongMark at))
 asDue k at (Record.Task t c) = if (sameMark TK k) Accepted (Refused (WrongMark at))
 asDue k at (Record.CutShort j) = Refused (if (sameMark j k) (CutShort at) (WrongMark at))
 asDue k at Record.NoMark = Refused (WrongMark at)
@@ -91,6 +116,7 @@ module _ (k : Mark) (at : ℕ) (bs : List ℕ) where
   whole-due : (j : Mark) → asDue k at (recordIn j at bs) ≡ if (sameMark j k) Accepted (Refused (WrongMark at))
   whole-due PL = refl
   whole-due RS = refl
+  whole-due LB = refl
   whole-due TK = refl
 
   own : asDue k at (recordOf k at bs) ≡ refuseIf (ltb (length bs) (size k)) (CutShort at)
@@ -129,18 +155,26 @@ module _ (k : Mark) (at : ℕ) (bs : List ℕ) where
 abbrev tag : Mark → ℕ
 tag PL = 0
 tag RS = 1
-tag TK = 2
+tag LB = 2
+tag TK = 3
 
 same-tag : (j k : Mark) → sameMark j k ≡ true → tag j ≡ tag k
 unfolding marked
 same-tag PL PL s = refl
 same-tag PL RS s = clash false s refl
+same-tag PL LB s = clash false s refl
 same-tag PL TK s = clash false s refl
 same-tag RS PL s = clash false s refl
 same-tag RS RS s = refl
+same-tag RS LB s = clash false s refl
 same-tag RS TK s = clash false s refl
+same-tag LB PL s = clash false s refl
+same-tag LB RS s = clash false s refl
+same-tag LB LB s = refl
+same-tag LB TK s = clash false s refl
 same-tag TK PL s = clash false s refl
 same-tag TK RS s = clash false s refl
+same-tag TK LB s = clash false s refl
 same-tag TK TK s = refl
 
 abbrev tagOf : Record → ℕ
@@ -153,19 +187,21 @@ module _ (k : Mark) (at : ℕ) where
   not-mine : (r : Record) → (tagOf r ≡ tag k → ⊥) → asDue k at r ≡ Refused (notDue k at r)
   not-mine (Record.Plan h c) n = apart PL n
   not-mine (Record.Resource q c) n = apart RS n
+  not-mine (Record.Band b c) n = apart LB n
   not-mine (Record.Task t c) n = apart TK n
   not-mine (Record.CutShort j) n = refl
   not-mine Record.NoMark n = refl
   not-mine Record.Ended n = refl
 
 -- every answer but these two is refused for its mark
-pub wrong-mark : (k : Mark) (at : ℕ) (r : Record) (ks : List ℕ) → T (not (hasKey ks 3)) → T (not (hasKey ks 5)) → OneOf ks (tagOf r) → WrongMark at ≡ notDue k at r
+pub wrong-mark : (k : Mark) (at : ℕ) (r : Record) (ks : List ℕ) → T (not (hasKey ks 4)) → T (not (hasKey ks 6)) → OneOf ks (tagOf r) → WrongMark at ≡ notDue k at r
 wrong-mark k at (Record.Plan h c) ks a b o = refl
 wrong-mark k at (Record.Resource q c) ks a b o = refl
+wrong-mark k at (Record.Band x c) ks a b o = refl
 wrong-mark k at (Record.Task t c) ks a b o = refl
-wrong-mark k at (Record.CutShort j) ks a b o = absurd (miss ks 3 a o)
+wrong-mark k at (Record.CutShort j) ks a b o = absurd (miss ks 4 a o)
 wrong-mark k at Record.NoMark ks a b o = refl
-wrong-mark k at Record.Ended ks a b o = absurd (miss ks 5 b o)
+wrong-mark k at Record.Ended ks a b o = absurd (miss ks 6 b o)
 
 -- ---- an answer taken, and an answer refused
 module _ (at : ℕ) (bs : List ℕ) {r : Record} (e : r ≡ handed at bs) where
@@ -179,6 +215,10 @@ module _ (at : ℕ) (bs : List ℕ) {r : Record} (e : r ≡ handed at bs) where
   pub resource-taken : {q : Resource} {c : Cursor} → r ≡ Record.Resource q c → (due RS at bs ≡ Accepted) × (q ≡ resourceFrom (numbersIn RS bs)) × (c .at ≡ at + size RS)
   unfolding marked
   resource-taken {c} g = let w = taken RS (ap (asDue RS at) g) in let x = sym g ∙ w .1 in let e : c ≡ cursor (at + size RS) = cc in (w .0, cc, ap (λ (y : Cursor). y .at) e)
+
+  pub band-taken : {b : Band} {c : Cursor} → r ≡ Record.Band b c → (due LB at bs ≡ Accepted) × (b ≡ bandFrom (numbersIn LB bs)) × (c .at ≡ at + size LB)
+  unfolding marked
+  band-taken {c} g = let w = taken LB (ap (asDue LB at) g) in let x = sym g ∙ w .1 in let e : c ≡ cursor (at + size LB) = cc in (w .0, cc, ap (λ (y : Cursor). y .at) e)
 
   pub task-taken : {t : Task} {c : Cursor} → r ≡ Record.Task t c → (due TK at bs ≡ Accepted) × (t ≡ taskFrom (numbersIn TK bs)) × (c .at ≡ at + size TK)
   unfolding marked

@@ -8,8 +8,8 @@ use Rattle.integers.specs.Tests.{if}
 use Rattle.plan.specs.declared.Refusal.{Refusal}
 use Rattle.plan.specs.declared.Refusal.the-variants.{WrongMark, CutShort}
 use Rattle.format.specs.declared.Mark.{Mark}
-use Rattle.format.specs.declared.Mark.the-variants.{PL, RS, TK}
-use Rattle.format.specs.Format.{mark, markSize, marked, size, numbersIn, headerFrom, resourceFrom, taskFrom}
+use Rattle.format.specs.declared.Mark.the-variants.{PL, RS, LB, TK}
+use Rattle.format.specs.Format.{mark, markSize, marked, size, numbersIn, headerFrom, resourceFrom, bandFrom, taskFrom}
 use Rattle.cursor.specs.declared.Cursor.{Cursor}
 use Rattle.cursor.specs.declared.Record.{Record}
 
@@ -20,6 +20,7 @@ cursor at = record { at = at }
 abbrev pub recordIn : Mark → ℕ → List ℕ → Record
 recordIn PL at bs = Record.Plan (headerFrom (numbersIn PL bs)) (cursor (at + size PL))
 recordIn RS at bs = Record.Resource (resourceFrom (numbersIn RS bs)) (cursor (at + size RS))
+recordIn LB at bs = Record.Band (bandFrom (numbersIn LB bs)) (cursor (at + size LB))
 recordIn TK at bs = Record.Task (taskFrom (numbersIn TK bs)) (cursor (at + size TK))
 
 -- unless it is longer than the rest
@@ -28,7 +29,7 @@ recordOf k at bs = if (ltb (length bs) (size k)) (Record.CutShort k) (recordIn k
 
 -- the mark that the bytes begin with, if with any
 unfoldable pub standing : List ℕ → Mark
-standing bs = if (marked PL bs) PL (if (marked RS bs) RS TK)
+standing bs = if (marked PL bs) PL (if (marked RS bs) RS (if (marked LB bs) LB TK))
 
 unfoldable pub handed : ℕ → List ℕ → Record
 handed at bs =
@@ -47,5 +48,6 @@ notDue k at Record.Ended = CutShort at
 notDue k at (Record.CutShort j) = if (sameMark j k) (CutShort at) (WrongMark at)
 notDue k at (Record.Plan h c) = WrongMark at
 notDue k at (Record.Resource q c) = WrongMark at
+notDue k at (Record.Band b c) = WrongMark at
 notDue k at (Record.Task t c) = WrongMark at
 notDue k at Record.NoMark = WrongMark at

@@ -4,10 +4,10 @@ ghost use mathlib.Core.Bool.{false};
 ghost use mathlib.Core.List.{[], _∷_};
 ghost use Prim.Native.Nat.{_+_, _≤_, _<_, _^_};
 ghost use lib.Dec.{ltb};
-ghost use lib.ListN.{length};
+ghost use lib.ListN.{length, drop};
 ghost use Rattle.integers.specs.Tests.{if};
-ghost use Rattle.format.specs.declared.Mark.the-variants.{PL, RS, TK};
-ghost use Rattle.format.specs.Format.{markSize, marked, size, numbersIn, headerFrom, resourceFrom, taskFrom};
+ghost use Rattle.format.specs.declared.Mark.the-variants.{PL, RS, LB, TK};
+ghost use Rattle.format.specs.Format.{markSize, marked, size, numbersIn, headerFrom, resourceFrom, bandFrom, taskFrom};
 ghost use Rattle.cursor.specs.Handed.{recordOf, standing, handed, recordAt, sameMark, notDue};
 use format::Header;
 use format::Mark;
@@ -20,6 +20,8 @@ use format::fields::two_at;
 use format::table;
 use format::table::first_byte;
 use format::table::second_byte;
+use plan::Band;
+use plan::Day;
 use plan::Power;
 use plan::Refusal;
 use plan::Resource;
@@ -35,6 +37,7 @@ pub struct Cursor {
 pub enum Record {
     Plan(Header, Cursor),
     Resource(Resource, Cursor),
+    Band(Band, Cursor),
     Task(Task, Cursor),
     CutShort(Mark),
     NoMark,
@@ -60,6 +63,17 @@ fn resource_of(b: &[u8]) -> Resource
     Resource {
         id: id_at(b, table::IDENTIFIER),
         limit: Power(cell_at(b, table::LIMIT)),
+    }
+}
+
+fn band_of(b: &[u8]) -> Band
+    requires { ⌜ size LB ≤ length (now b) ⌝ }
+    ensures { λ r. ⌜ r ≡ bandFrom (numbersIn LB (now (b .entry))) ⌝ }
+{
+    Band {
+        place: two_at(b, table::BAND_PLACE) as usize,
+        from: Day(cell_at(b, table::BAND_FROM)),
+        limit: Power(cell_at(b, table::BAND_LIMIT)),
     }
 }
 
@@ -117,6 +131,19 @@ fn resource_record(at: usize, b: &[u8]) -> Record
     Record::Resource(resource_of(b), past)
 }
 
+fn band_record(at: usize, b: &[u8]) -> Record
+    requires { ⌜ at + length (now b) < 2 ^ 64 ⌝ }
+    ensures { λ r. ⌜ r ≡ recordOf LB at (now (b .entry)) ⌝ }
+{
+    if b.len() < table::LB_SIZE {
+        return Record::CutShort(Mark::LB);
+    }
+    let past = Cursor {
+        at: at + table::LB_SIZE,
+    };
+    Record::Band(band_of(b), past)
+}
+
 fn task_record(at: usize, b: &[u8]) -> Record
     requires { ⌜ at + length (now b) < 2 ^ 64 ⌝ }
     ensures { λ r. ⌜ r ≡ recordOf TK at (now (b .entry)) ⌝ }
@@ -137,6 +164,7 @@ fn record_of(k: Mark, at: usize, b: &[u8]) -> Record
     match k {
         Mark::PL => plan_record(at, b),
         Mark::RS => resource_record(at, b),
+        Mark::LB => band_record(at, b),
         Mark::TK => task_record(at, b),
     }
 }
@@ -151,6 +179,9 @@ fn standing(b: &[u8]) -> Mark
     }
     if is_marked(Mark::RS, b) {
         return Mark::RS;
+    }
+    if is_marked(Mark::LB, b) {
+        return Mark::LB;
     }
     Mark::TK
 }
@@ -203,6 +234,17 @@ impl Cursor {
             }
         }
         self.next(file)
+    }
+
+    // Whether such a mark stands at the cursor: how a run without a count is told from what follows it.
+    pub fn stands_before(self, k: Mark, file: &[u8]) -> bool
+        ensures { λ r. ⌜ r ≡ if (ltb (length (drop (self .at) (now (file .entry)))) markSize) false (marked k (drop (self .at) (now (file .entry)))) ⌝ }
+    {
+        let at = self.at;
+        if at < file.len() {
+            return is_due(k, &file[at..]);
+        }
+        false
     }
 }
 

@@ -5,7 +5,7 @@ use mathlib.Core.List.{List}
 use Rattle.plan.specs.declared.Task.{Task}
 use Rattle.plan.specs.declared.Sense.the-variants.{AtLeast}
 use Rattle.plan.specs.declared.Checked.the-variants.{Accepted}
-use Rattle.rules.specs.Frame.{Frame, plain}
+use Rattle.rules.specs.Frame.{Frame, framed}
 use Rattle.rules.specs.Balance.{Outcome}
 use Rattle.rules.specs.Calls.{check, stepped, resultOf}
 use Rattle.rows.specs.Changes.{planIf}
@@ -19,5 +19,5 @@ left-result true ts us o e = ap (stepped ts) e
 left-result false ts us o e = ap (stepped ts) e
 
 -- the rows hold the plan as it is for its sense: it passes the checks as it did
-pub accepted-for : (f : Frame) (ts : List Task) → check (plain AtLeast (f .resources)) ts ≡ Accepted → check (frameFor f) (tasksFor (f .sense) ts) ≡ Accepted
-accepted-for f ts a = check-for f ts ∙ check-sense (f .sense) AtLeast (f .resources) ts ∙ a
+pub accepted-for : (f : Frame) (ts : List Task) → check (framed AtLeast (f .resources) (f .bands)) ts ≡ Accepted → check (frameFor f) (tasksFor (f .sense) ts) ≡ Accepted
+accepted-for f ts a = check-for f ts ∙ check-sense (f .sense) AtLeast (f .resources) (f .bands) ts ∙ a

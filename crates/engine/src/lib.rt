@@ -11,6 +11,7 @@ use plan::Answer;
 use plan::Call;
 use plan::Refusal;
 use plan::Sense;
+use rows::BandRow;
 use rows::ResourceRow;
 use rows::TaskRow;
 use stretches::StretchRow;
@@ -43,13 +44,14 @@ fn left_if(ok: bool) -> Answer
 fn apply_at_least(
     c: Call,
     q: &[ResourceRow],
+    b: &[BandRow],
     s: &mut [TaskRow],
     keys: &mut [u64],
     spare: &mut [u64],
     ss: &mut [StretchRow],
 ) -> Answer
-    requires { ⌜ (placedIn (length (now q)) c ≡ true) × Ready (now q) (now s) (now keys) (now spare) (now ss) ⌝ }
-    ensures { λ a. ⌜ AnsweredRows c (atLeast (now (q .entry))) (now (s .entry)) a (now (s .exit)) ⌝ }
+    requires { ⌜ (placedIn (length (now q)) c ≡ true) × Ready (now q) (now b) (now s) (now keys) (now spare) (now ss) ⌝ }
+    ensures { λ a. ⌜ AnsweredRows c (atLeast (now (q .entry)) (now (b .entry))) (now (s .entry)) a (now (s .exit)) ⌝ }
 {
     match c {
         Call::Check => Answer::Done(0),
@@ -58,14 +60,14 @@ fn apply_at_least(
             left_if(o.ok)
         }
         Call::Step(p) => {
-            let o = passes::resource_step(q, s, p, idle::no_steps(), keys, spare, ss);
+            let o = passes::resource_step(q, b, s, p, idle::no_steps(), keys, spare, ss);
             left_if(o.ok)
         }
         Call::Pass => {
-            let o = passes::pass_rows(q, s, idle::EVERY_PLACE, keys, spare, ss);
+            let o = passes::pass_rows(q, b, s, idle::EVERY_PLACE, keys, spare, ss);
             left_if(o.ok)
         }
-        Call::Settle => passes::settle_rows(q, s, keys, spare, ss),
+        Call::Settle => passes::settle_rows(q, b, s, keys, spare, ss),
     }
 }
 
@@ -74,20 +76,21 @@ pub fn apply(
     c: Call,
     sense: Sense,
     q: &mut [ResourceRow],
+    b: &mut [BandRow],
     s: &mut [TaskRow],
     keys: &mut [u64],
     spare: &mut [u64],
     ss: &mut [StretchRow],
 ) -> Answer
-    requires { ⌜ (placedIn (length (now q)) c ≡ true) × Ready (now q) (now s) (now keys) (now spare) (now ss) ⌝ }
-    ensures result { λ a. ⌜ AnsweredRows c (frameOf sense (now (q .entry))) (now (s .entry)) a (now (s .exit)) ⌝ }
-    ensures restored { λ a. ⌜ Restored a (now (q .entry)) (now (q .exit)) ⌝ }
+    requires { ⌜ (placedIn (length (now q)) c ≡ true) × Ready (now q) (now b) (now s) (now keys) (now spare) (now ss) ⌝ }
+    ensures result { λ a. ⌜ AnsweredRows c (frameOf sense (now (q .entry)) (now (b .entry))) (now (s .entry)) a (now (s .exit)) ⌝ }
+    ensures restored { λ a. ⌜ Restored a (now (q .entry)) (now (q .exit)) (now (b .entry)) (now (b .exit)) ⌝ }
 {
-    negation::negate_for(sense, q, s);
-    match apply_at_least(c, q, s, keys, spare, ss) {
+    negation::negate_for(sense, q, b, s);
+    match apply_at_least(c, q, b, s, keys, spare, ss) {
         Answer::Refused(f) => Answer::Refused(f),
         Answer::Done(n) => {
-            negation::negate_for(sense, q, s);
+            negation::negate_for(sense, q, b, s);
             Answer::Done(n)
         }
     }

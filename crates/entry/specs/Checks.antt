@@ -4,17 +4,18 @@ use mathlib.Core.Bool.{Bool, true}
 use mathlib.Core.List.{List, [], _∷_}
 use Prim.Native.Nat.{ℕ, zero, suc, _≤_}
 use lib.IntN.{ℤ}
-use lib.ListN.{length, getD}
+use lib.ListN.{length, getD, take}
 use lib.Signed.{ltZ}
 use Rattle.integers.specs.Whole.{eqZ}
 use Rattle.integers.specs.Tests.{and, any}
 use Rattle.plan.specs.declared.Task.{Task}
 use Rattle.plan.specs.declared.Resource.{Resource}
+use Rattle.plan.specs.declared.Band.{Band}
 use Rattle.plan.specs.declared.Sense.{Sense}
 use Rattle.plan.specs.declared.Checked.{Checked}
-use Rattle.plan.specs.Tasks.{noResource, mostResources, mostTasks}
+use Rattle.plan.specs.Tasks.{noResource, mostResources, mostBands, mostTasks}
 use Rattle.rules.specs.Frame.{Frame, resourceCount}
-use Rattle.rules.specs.Calls.{orElse, repeats, limits, tasksFit, check}
+use Rattle.rules.specs.Calls.{orElse, repeats, limits, bandsFit, tasksFit, check}
 use Rattle.rows.specs.View.{frameOf, tasksOf}
 
 -- the identifiers of the first k resources, the latest first
@@ -35,20 +36,30 @@ rises [] = true
 rises (q ∷ []) = true
 rises (q ∷ (r ∷ qs)) = and (belowId q r) (rises (r ∷ qs))
 
--- 3 to 6
-unfoldable pub contents : List Resource → List Task → Checked
-contents qs ts = orElse (repeats 0 [] qs) (orElse (limits 0 qs) (tasksFit (length qs) 0 ts))
+-- 3 to 6, and 13 between 4 and 5
+unfoldable pub contents : List Resource → List Band → List Task → Checked
+contents qs bs ts =
+    orElse (repeats 0 [] qs) (orElse (limits 0 qs)
+    (orElse (bandsFit (length qs) bs) (tasksFit (length qs) 0 ts)))
 
--- rows of resources and tasks: the entry checks look at no sense
-abbrev pub Checks : List (List ℤ) → List (List ℤ) → Checked → Type 0
-Checks q s r = (sense : Sense) → r ≡ check (frameOf sense q) (tasksOf s)
+-- the same of any list of so many bands whose first 64 are these
+abbrev pub ChecksContents : ℕ → List Resource → List Band → List Task → Checked → Type 0
+ChecksContents bands qs firsts ts r = (bs : List Band) → length bs ≡ bands → firsts ≡ take mostBands bs → r ≡ contents qs bs ts
 
--- a plan of so many resources and tasks is held whole by these lists, where there are not too many
-pub record Held (f : Frame) (ts : List Task) (resources tasks : ℕ) (qs : List Resource) (us : List Task) : Type 0 where
+-- rows of resources, bands and tasks: the entry checks look at no sense
+abbrev pub Checks : List (List ℤ) → List (List ℤ) → List (List ℤ) → Checked → Type 0
+Checks q b s r = (sense : Sense) → r ≡ check (frameOf sense q b) (tasksOf s)
+
+-- a plan of so many resources, bands and tasks: these lists hold its resources and tasks whole, where there are not too many, and its first
+-- bands, which are all that refusal 13 looks at
+pub record Held (f : Frame) (ts : List Task) (resources bands tasks : ℕ) (qs : List Resource) (bs : List Band) (us : List Task) : Type 0 where
   pub resources-many : resourceCount f ≡ resources
+  pub bands-many : length (f .bands) ≡ bands
   pub tasks-many : length ts ≡ tasks
   pub resources-held : resourceCount f ≤ mostResources → qs ≡ f .resources
+  pub bands-held : bs ≡ take mostBands (f .bands)
   pub tasks-held : length ts ≤ mostTasks → us ≡ ts
 
-abbrev pub ChecksHeld : ℕ → ℕ → List Resource → List Task → Checked → Type 0
-ChecksHeld resources tasks qs us r = (f : Frame) (ts : List Task) → Held f ts resources tasks qs us → r ≡ check f ts
+abbrev pub ChecksHeld : ℕ → ℕ → ℕ → List Resource → List Band → List Task → Checked → Type 0
+ChecksHeld resources bands tasks qs bs us r =
+    (f : Frame) (ts : List Task) → Held f ts resources bands tasks qs bs us → r ≡ check f ts

@@ -1,4 +1,4 @@
-// The entry checks, refusals 1 to 6 in the page's order, over rows of any numbers and of any length.
+// The entry checks, refusals 1 to 4, 13, 5 and 6 in the page's order, over rows of any numbers and of any length.
 ghost use mathlib.Core.Path.{_≡_};
 ghost use mathlib.Core.List.{[]};
 ghost use Prim.Native.Nat.{_<_};
@@ -8,10 +8,11 @@ ghost use Rattle.integers.specs.Whole.{eqZ};
 ghost use Rattle.plan.specs.Days.{dayEnds, durationEnds, daysOf};
 ghost use Rattle.plan.specs.Powers.{powerEnds, powersOf};
 ghost use Rattle.rules.specs.Calls.{repeats, limits, rangesFit, setFits, tasksFit};
-ghost use Rattle.rows.specs.View.{tasksOf, resourcesOf};
-ghost use Rattle.entry.specs.Checks.{contents, belowId, rises, repeatsAt, Checks, ChecksHeld};
+ghost use Rattle.rows.specs.View.{tasksOf, resourcesOf, bandsOf};
+ghost use Rattle.entry.specs.Checks.{belowId, rises, repeatsAt, Checks, ChecksContents, ChecksHeld};
 use plan::Checked;
 use plan::Day;
+use plan::MOST_BANDS;
 use plan::MOST_RESOURCES;
 use plan::MOST_TASKS;
 use plan::Power;
@@ -21,6 +22,7 @@ use plan::Resource;
 use plan::SET_BITS;
 use plan::Span;
 use plan::Task;
+use rows::BandRow;
 use rows::ResourceRow;
 use rows::TaskRow;
 
@@ -165,9 +167,9 @@ fn check_tasks(resources: u64, s: &[TaskRow]) -> Checked
     Checked::Accepted
 }
 
-// 3 over all resources, 4 over all, then the tasks.
-fn check_contents(q: &[ResourceRow], s: &[TaskRow]) -> Checked
-    ensures { λ r. ⌜ r ≡ contents (resourcesOf (now (q .entry))) (tasksOf (now (s .entry))) ⌝ }
+// 3 over all resources, 4 over all, 13 over all bands, of which the rows hold the first, then the tasks.
+fn check_contents(bands: usize, q: &[ResourceRow], b: &[BandRow], s: &[TaskRow]) -> Checked
+    ensures { λ r. ⌜ ChecksContents bands (resourcesOf (now (q .entry))) (bandsOf (now (b .entry))) (tasksOf (now (s .entry))) r ⌝ }
 {
     let identifiers = check_identifiers(q);
     match identifiers {
@@ -176,15 +178,33 @@ fn check_contents(q: &[ResourceRow], s: &[TaskRow]) -> Checked
             let limits = check_limits(q);
             match limits {
                 Checked::Refused(f) => Checked::Refused(f),
-                Checked::Accepted => check_tasks(q.len() as u64, s),
+                Checked::Accepted => {
+                    // The tasks are checked from two places, so that the compiler keeps their loop apart from that of the bands.
+                    if bands == 0 {
+                        return check_tasks(q.len() as u64, s);
+                    }
+                    let levels = bands::check_first(bands, b, q.len());
+                    match levels {
+                        Checked::Refused(f) => Checked::Refused(f),
+                        Checked::Accepted => check_tasks(q.len() as u64, s),
+                    }
+                }
             }
         }
     }
 }
 
-// Lists of so many tasks and resources, which the rows hold whole where there are not too many: refusals 1 and 2 need no rows.
-pub fn check_lists(tasks: usize, resources: usize, q: &[ResourceRow], s: &[TaskRow]) -> Checked
-    ensures { λ r. ⌜ ChecksHeld resources tasks (resourcesOf (now (q .entry))) (tasksOf (now (s .entry))) r ⌝ }
+// Lists of so many tasks, resources and bands: the rows hold resources and tasks whole where there are not too many, and the first 64 bands.
+// Refusals 1 and 2 need no rows.
+pub fn check_lists(
+    tasks: usize,
+    resources: usize,
+    bands: usize,
+    q: &[ResourceRow],
+    b: &[BandRow],
+    s: &[TaskRow],
+) -> Checked
+    ensures { λ r. ⌜ ChecksHeld resources bands tasks (resourcesOf (now (q .entry))) (bandsOf (now (b .entry))) (tasksOf (now (s .entry))) r ⌝ }
 {
     if MOST_TASKS < tasks {
         return Checked::Refused(Refusal::TooManyTasks);
@@ -195,13 +215,17 @@ pub fn check_lists(tasks: usize, resources: usize, q: &[ResourceRow], s: &[TaskR
     if MOST_RESOURCES < resources {
         Checked::Refused(Refusal::ResourceCount)
     } else {
-        check_contents(q, s)
+        check_contents(bands, q, b, s)
     }
 }
 
 // The rows' own lists, of any length.
-pub fn check(q: &[ResourceRow], s: &[TaskRow]) -> Checked
-    ensures { λ r. ⌜ Checks (now (q .entry)) (now (s .entry)) r ⌝ }
+pub fn check(q: &[ResourceRow], b: &[BandRow], s: &[TaskRow]) -> Checked
+    ensures { λ r. ⌜ Checks (now (q .entry)) (now (b .entry)) (now (s .entry)) r ⌝ }
 {
-    check_lists(s.len(), q.len(), q, s)
+    if MOST_BANDS < b.len() {
+        check_lists(s.len(), q.len(), b.len(), q, &b[..MOST_BANDS], s)
+    } else {
+        check_lists(s.len(), q.len(), b.len(), q, b, s)
+    }
 }

@@ -1,5 +1,7 @@
--- The two lists of a plan are laid out lawfully: an accepted plan's resources and tasks are held by their records, and each is read back.
+-- The three lists of a plan are laid out lawfully: an accepted plan's resources, bands and tasks are held by their records, and each is read
+-- back.
 use mathlib.Core.Path.{_≡_, refl}
+use mathlib.Core.Bool.{true}
 use mathlib.Core.List.{List, [], _∷_}
 use Prim.Native.Nat.{ℕ, suc, _≤_, _<_, _^_}
 use native.Mathlib.Omega.{arith}
@@ -14,20 +16,23 @@ use Rattle.integers.specs.Ends.{Within}
 use Rattle.integers.specs.Lists.{Each, cell}
 use Rattle.integers.specs.Lists.Each.{nothing, also}
 use Rattle.integers.proofs.Z.{z}
-use Rattle.integers.proofs.Tests.{by-cases}
+use Rattle.integers.specs.Tests.{all}
+use Rattle.integers.proofs.Tests.{by-cases, and-first, and-second}
 use Rattle.integers.proofs.Lists.{each-so}
 use Rattle.plan.specs.declared.Task.{Task}
 use Rattle.plan.specs.declared.Resource.{Resource}
+use Rattle.plan.specs.declared.Band.{Band}
 use Rattle.plan.specs.declared.Checked.the-variants.{Accepted}
 use Rattle.plan.specs.Powers.{powerEnds}
 use Rattle.plan.specs.Tasks.{mostResources, noResource, TaskFits}
 use Rattle.rules.specs.Frame.{Frame, resourceCount}
-use Rattle.rules.specs.Calls.{check}
+use Rattle.rules.specs.Calls.{bandFits, check}
 use Rattle.rules.proofs.Checks.{accepts}
+use Rattle.rules.proofs.Bands.{fits-ends, fits-place, ends-in}
 use Rattle.rows.specs.View.{idHigh, idOf, resourceOf, resourcesOf}
-use Rattle.format.specs.declared.Mark.the-variants.{RS, TK}
-use Rattle.format.specs.Format.{resources, tasks, widths, resourceNumbers, resourceFrom, taskNumbers, taskFrom}
-use Rattle.format.specs.Writing.{Identified, ResourceSmall, TaskSmall}
+use Rattle.format.specs.declared.Mark.the-variants.{RS, LB, TK}
+use Rattle.format.specs.Format.{resources, bands, tasks, widths, resourceNumbers, resourceFrom, bandNumbers, bandFrom, taskNumbers, taskFrom}
+use Rattle.format.specs.Writing.{Identified, ResourceSmall, twoBytes, BandSmall, TaskSmall}
 use Rattle.format.proofs.Numbers.{beyond}
 use Rattle.format.proofs.Records.{Held, none, more, Lawful}
 
@@ -71,6 +76,21 @@ unfolding resourcesOf resourceOf
 rows-identified [] = nothing
 rows-identified (r ∷ q) = also (id-small (cell r 0)) (rows-identified q)
 
+-- ---- bands
+pub bands-lawful : Lawful bands BandSmall
+unfolding bandNumbers bandFrom beyond
+bands-lawful =
+    record {
+      same = λ b. refl;
+      long = λ b. refl;
+      held = λ b f. more (f .place) (more (word (f .from)) (more (word (f .limit)) none));
+      back = λ b f. simp (toZ-ofZ (f .from), toZ-ofZ (f .limit));
+      forth = forth;
+    }
+  where
+    forth : (ns : List ℕ) → Held (widths LB) ns → bandNumbers (bandFrom ns) ≡ ns
+    forth _ (more _ (more a (more b none))) = simp (bits a, bits b)
+
 -- ---- tasks
 pub tasks-lawful : (n : ℕ) → Lawful (tasks n) TaskSmall
 unfolding taskNumbers taskFrom beyond
@@ -108,9 +128,24 @@ limits-small (also {x = q} i is) g =
     let small : SFits w32 (q .limit .0) = omega z in
     also (record { id = i; limit = small }) (limits-small is (λ r h. g (suc r) (omega arith)))
 
+fitting-small : (n : ℕ) → n ≤ mostResources → (bs : List Band) → all (bandFits n) bs ≡ true → Each BandSmall bs
+unfolding all
+fitting-small n few [] h = nothing
+fitting-small n few (b ∷ bs) h =
+    let fits = and-first (bandFits n b) (all (bandFits n) bs) h in
+    let ends = ends-in b (fits-ends n b fits) in
+    let placed = fits-place n b fits in
+    let place : b .place < twoBytes = omega arith in
+    let from : SFits w32 (b .from .0) = omega z in
+    let limit : SFits w32 (b .limit .0) = omega z in
+    also (record { place = place; from = from; limit = limit }) (fitting-small n few bs (and-second (bandFits n b) (all (bandFits n) bs) h))
+
 module _ (f : Frame) (ts : List Task) (ok : check f ts ≡ Accepted) where
   pub resources-small : Each Identified (f .resources) → Each ResourceSmall (f .resources)
   resources-small ids = limits-small ids (accepts f ts ok .limits)
+
+  pub bands-small : Each BandSmall (f .bands)
+  bands-small = fitting-small (resourceCount f) (accepts f ts ok .most) (f .bands) (accepts f ts ok .placed)
 
   pub tasks-small : Each TaskSmall ts
   tasks-small =

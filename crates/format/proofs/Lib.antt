@@ -3,7 +3,9 @@ pub mod Numbers
 pub mod Stores
 pub mod Records
 pub mod Layouts
+pub mod Bands
 pub mod Runs
 pub mod Files
 pub mod RoundTrip
+pub mod BandFiles
 pub mod Refusing

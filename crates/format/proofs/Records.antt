@@ -19,7 +19,7 @@ use Rattle.plan.specs.declared.Refusal.the-variants.{WrongMark, CutShort}
 use Rattle.rules.specs.Calls.{orElse, refuseIf}
 use Rattle.rules.proofs.Checks.{past, past-all}
 use Rattle.format.specs.declared.Mark.{Mark}
-use Rattle.format.specs.declared.Mark.the-variants.{PL, RS, TK}
+use Rattle.format.specs.declared.Mark.the-variants.{PL, RS, LB, TK}
 use Rattle.format.specs.Numbers.{bytesOf, numberOf, numberAt}
 use Rattle.format.specs.Format.{Layout, mark, markSize, marked, widths, total, size, fieldBytes, recordBytes, fieldsIn, numbersIn}
 use Rattle.format.specs.Writing.{recordsBytes}
@@ -88,15 +88,17 @@ unfolding numbersIn
 numbers-placed k bs = fields-placed bs (widths k) markSize
 
 -- ---- one record
-own-mark : (k : Mark) (ns rest : List ℕ) → marked k (recordBytes k ns ++ rest) ≡ true
+pub own-mark : (k : Mark) (ns rest : List ℕ) → marked k (recordBytes k ns ++ rest) ≡ true
 unfolding marked recordBytes
 own-mark PL ns rest = refl
 own-mark RS ns rest = refl
+own-mark LB ns rest = refl
 own-mark TK ns rest = refl
 
 mark-pair : (k : Mark) → getD (mark k) 0 0 ∷ getD (mark k) 1 0 ∷ [] ≡ mark k
 mark-pair PL = refl
 mark-pair RS = refl
+mark-pair LB = refl
 mark-pair TK = refl
 
 marked-two : (bs : List ℕ) (k : Mark) → markSize ≤ length bs → marked k bs ≡ true → take markSize bs ≡ mark k
@@ -152,6 +154,12 @@ due-is k at bs h =
     let a = past (ltb (length bs) markSize) (CutShort at) (orElse (refuseIf (not (marked k bs)) (WrongMark at)) (refuseIf short (CutShort at))) h in
     let b = past (not (marked k bs)) (WrongMark at) (refuseIf short (CutShort at)) (a .1) in
     record { whole = ltb-false (length bs) (size k) (unrefused short (CutShort at) (b .1)); begins = not-false (marked k bs) (b .0) }
+
+pub due-in : (k : Mark) (at : ℕ) (bs : List ℕ) → Due k bs → due k at bs ≡ Accepted
+unfolding due
+due-in k at bs d =
+    let w = d .whole in
+    simp (le-ltb (length bs) markSize (omega arith), le-ltb (length bs) (size k) (d .whole), d .begins)
 
 module _ (k : Mark) {bs : List ℕ} (d : Due k bs) (a : Each Byte bs) where
   pub record-held : Held (widths k) (numbersIn k bs)

@@ -1,5 +1,5 @@
--- Every place that a refused file is given lies within the longest file: 9,382 bytes, for 16 resources and 256 tasks. The file may be of
--- any length: a count above its most is refused before a record of the body is read.
+-- Every place that a refused file is given lies within the longest file: 10,150 bytes, for 16 resources, 64 bands and 256 tasks. The file may be of
+-- any length: a count above its most is refused before a record of the body is read, and a 65th band where it is met.
 use mathlib.Core.Path.{_≡_, refl, subst}
 use mathlib.Core.Bool.{not}
 use mathlib.Core.List.{List}
@@ -9,24 +9,26 @@ use native.Mathlib.Nat.{suc-mul}
 use lib.Dec.{eqb, ltb}
 use lib.ListN.{length, drop}
 use Rattle.integers.specs.Tests.{or}
+use Rattle.integers.proofs.Tests.{by-cases}
 use Rattle.plan.specs.declared.Checked.{Checked}
 use Rattle.plan.specs.declared.Checked.the-variants.{Accepted, Refused}
 use Rattle.plan.specs.declared.Refusal.{Refusal}
-use Rattle.plan.specs.declared.Refusal.the-variants.{TooManyTasks, ResourceCount, WrongMark, CutShort, ListShort}
+use Rattle.plan.specs.declared.Refusal.the-variants.{TooManyTasks, ResourceCount, WrongMark, CutShort, ListShort, BandOutside}
 use Rattle.plan.specs.Refusals.{place}
-use Rattle.plan.specs.Tasks.{mostResources, mostTasks}
+use Rattle.plan.specs.Tasks.{mostResources, mostBands, mostTasks}
 use Rattle.rules.specs.Calls.{orElse, refuseIf, check}
 use Rattle.rules.proofs.Checks.{past-all}
 use Rattle.rules.proofs.Bounds.{PlacedTo, lastPlace, placed-then, placed-if, placed-unless, placed-more, check-placed}
 use Rattle.format.specs.declared.Mark.{Mark}
-use Rattle.format.specs.declared.Mark.the-variants.{PL}
+use Rattle.format.specs.declared.Mark.the-variants.{PL, LB}
 use Rattle.format.specs.declared.Header.{Header}
 use Rattle.format.specs.declared.HeaderAnswer.{HeaderAnswer}
-use Rattle.format.specs.Format.{resources, tasks, size, markSize, marked, tasksFrom, longestFile}
-use Rattle.format.specs.Reading.{Read, due, eachDue, runDue, headerIn, headerDue, listsDue, fileEnd, frameIn, tasksIn, bodyDue, headerUnless, readUnless, readChecked, readHeader, readBody, readAfter, readPlan, lentAfter, planAfter, readLent}
+use Rattle.format.specs.Format.{resources, tasks, size, markSize, marked, bandsFrom, tasksFrom, longestFile}
+use Rattle.format.specs.Reading.{Read, due, eachDue, bandDue, eachBandDue, bandsDue, bandCount, bandsIn, lookedAt, runDue, headerIn, headerDue, listsDue, fileEnd, frameIn, tasksIn, bodyDue, headerUnless, readUnless, readChecked, readHeader, readBody, readAfter, readPlan, lentAfter, planAfter, readLent}
+use Rattle.format.proofs.Bands.{run-is, taken-is}
 use Rattle.format.proofs.Files.{Few, few}
 
-pub longest-is : longestFile ≡ 9382
+pub longest-is : longestFile ≡ 10150
 longest-is = refl
 
 -- a check whose place, where it refuses, lies within the longest file
@@ -49,6 +51,28 @@ each-placed k (suc n) at bs l =
     placed-then longestFile (due k at bs) (eachDue k n (at + size k) (drop (size k) bs)) (due-placed k at bs (omega arith))
     (λ e. each-placed k n (at + size k) (drop (size k) bs) (omega (arith, l, suc-mul n (size k))))
 
+-- a band too, or, where it is a 65th, by its own place
+band-placed : (room k at : ℕ) (bs : List ℕ) → at ≤ longestFile → k ≤ mostBands → Placed (bandDue room k at bs)
+unfolding bandDue
+band-placed room k at bs l m =
+    let more = not (ltb k mostBands) in
+    let none = not (ltb k room) in
+    placed-unless longestFile (ltb (length bs) (size LB)) (CutShort at) (orElse (refuseIf more (BandOutside k)) (refuseIf none ListShort)) l λ e.
+    placed-unless longestFile more (BandOutside k) (refuseIf none ListShort) (omega arith) λ f.
+    placed-if longestFile none ListShort (omega arith)
+
+bands-placed : (most room k at : ℕ) (bs : List ℕ) → k ≤ mostBands → at ≤ bandsFrom mostResources + k * size LB → Placed (eachBandDue most room k at bs)
+unfolding eachBandDue
+bands-placed zero room k at bs m l = tt
+bands-placed (suc most) room k at bs m l =
+    let rest = eachBandDue most room (suc k) (at + size LB) (drop (size LB) bs) in
+    by-cases (marked LB bs)
+    (λ e.
+    rw e
+    (placed-then longestFile (bandDue room k at bs) rest (band-placed room k at bs (omega arith) m) λ d.
+    bands-placed most room (suc k) (at + size LB) (drop (size LB) bs) (taken-is room k at bs d .few) (omega arith)))
+    (λ e. rw e tt)
+
 -- ---- the header
 header-placed : (h : Header) → Placed (headerDue h)
 unfolding headerDue
@@ -59,17 +83,21 @@ header-placed h =
     placed-if longestFile none ResourceCount (omega arith)
 
 -- ---- the body
-body-placed : (h : Header) (file : List ℕ) → Few h → Placed (bodyDue h file)
-unfolding bodyDue
-body-placed h file f =
+body-placed : (room : ℕ) (h : Header) (file : List ℕ) → Few h → Placed (bodyDue room h file)
+unfolding bodyDue bandsDue bandsIn bandCount
+body-placed room h file f =
     let r = f .resources in
     let t = f .tasks in
-    let at = tasksFrom (h .resources) in
-    let left = refuseIf (ltb (fileEnd h) (length file)) (CutShort (fileEnd h)) in
+    let from = bandsFrom (h .resources) in
+    let at = tasksFrom (h .resources) (bandsIn h file) in
+    let left = refuseIf (ltb (fileEnd h file) (length file)) (CutShort (fileEnd h file)) in
     let last = runDue (tasks (h .resources)) file at (h .tasks) in
-    placed-then longestFile (runDue resources file (size PL) (h .resources)) (orElse last left) (each-placed (resources .due) (h .resources) (size PL) (drop (size PL) file) (omega arith)) λ e.
-    placed-then longestFile last left (each-placed (tasks (h .resources) .due) (h .tasks) at (drop at file) (omega arith)) λ g.
-    placed-if longestFile (ltb (fileEnd h) (length file)) (CutShort (fileEnd h)) (omega arith)
+    let banded = bandsDue room file from in
+    placed-then longestFile (runDue resources file (size PL) (h .resources)) (orElse banded (orElse last left)) (each-placed (resources .due) (h .resources) (size PL) (drop (size PL) file) (omega arith)) λ e.
+    placed-then longestFile banded (orElse last left) (bands-placed lookedAt room 0 from (drop from file) (omega arith) (omega arith)) λ b.
+    let few = run-is lookedAt room 0 from (drop from file) b .few (omega arith) in
+    placed-then longestFile last left (each-placed (tasks (h .resources) .due) (h .tasks) at (drop at file) (omega (arith, few))) λ g.
+    placed-if longestFile (ltb (fileEnd h file) (length file)) (CutShort (fileEnd h file)) (omega (arith, few))
 
 -- ---- what is read
 abbrev PlacedRead : Read → Type 0
@@ -85,11 +113,11 @@ checked-placed (Read.Plan f ts) p =
     unless-placed (check f ts) (Read.Plan f ts) (placed-more lastPlace longestFile (omega arith) (check f ts) (check-placed f ts)) tt
 checked-placed (Read.Refuse f) p = p
 
-after-placed : (h : Header) (file : List ℕ) → Few h → PlacedRead (readAfter h file)
+after-placed : (room : ℕ) (h : Header) (file : List ℕ) → Few h → PlacedRead (readAfter room h file)
 unfolding readAfter readBody
-after-placed h file f =
+after-placed room h file f =
     let x = Read.Plan (frameIn h file) (tasksIn h file) in
-    checked-placed (readUnless (bodyDue h file) x) (unless-placed (bodyDue h file) x (body-placed h file f) tt)
+    checked-placed (readUnless (bodyDue room h file) x) (unless-placed (bodyDue room h file) x (body-placed room h file f) tt)
 
 -- by what the header answers
 module _ (file : List ℕ) (next : HeaderAnswer → Read) (refuses : (f : Refusal) → next (HeaderAnswer.Refused f) ≡ Read.Refuse f) where
@@ -105,14 +133,14 @@ module _ (file : List ℕ) (next : HeaderAnswer → Read) (refuses : (f : Refusa
       (placed-then longestFile (due PL 0 file) (headerDue h) (due-placed PL 0 file (omega arith)) (λ e. header-placed h))
       (λ e. q h (few h (past-all (due PL 0 file) (headerDue h) e .1)))
 
--- any refusal of a file: 1 to 6, 8 and 9, and by lists of so many places 11
+-- any refusal of a file: 1 to 6, 8, 9 and 13, and by lists of so many places 11
 pub read-place : (file : List ℕ) (f : Refusal) → readPlan file ≡ Read.Refuse f → place f ≤ longestFile
 unfolding readPlan
-read-place file f e = subst PlacedRead e (file-placed file (planAfter file) (λ g. refl) (λ h w. after-placed h file w))
+read-place file f e = subst PlacedRead e (file-placed file (planAfter file) (λ g. refl) (λ h w. after-placed mostBands h file w))
 
-pub lent-place : (places room : ℕ) (file : List ℕ) (f : Refusal) → readLent places room file ≡ Read.Refuse f → place f ≤ longestFile
+pub lent-place : (places bandRoom room : ℕ) (file : List ℕ) (f : Refusal) → readLent places bandRoom room file ≡ Read.Refuse f → place f ≤ longestFile
 unfolding readLent listsDue
-lent-place places room file f e =
-    subst PlacedRead e (file-placed file (lentAfter places room file) (λ g. refl) λ h w.
-    unless-placed (listsDue places room h) (readAfter h file)
-    (placed-if longestFile (or (ltb places (h .resources)) (ltb room (h .tasks))) ListShort (omega arith)) (after-placed h file w))
+lent-place places bandRoom room file f e =
+    subst PlacedRead e (file-placed file (lentAfter places bandRoom room file) (λ g. refl) λ h w.
+    unless-placed (listsDue places room h) (readAfter bandRoom h file)
+    (placed-if longestFile (or (ltb places (h .resources)) (ltb room (h .tasks))) ListShort (omega arith)) (after-placed bandRoom h file w))

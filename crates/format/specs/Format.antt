@@ -8,15 +8,16 @@ use lib.ListN.{getD, take, drop}
 use Rattle.integers.specs.Tests.{and}
 use Rattle.plan.specs.declared.Task.{Task}
 use Rattle.plan.specs.declared.Resource.{Resource}
+use Rattle.plan.specs.declared.Band.{Band}
 use Rattle.plan.specs.declared.Span.{Span}
 use Rattle.plan.specs.declared.PowerSpan.{PowerSpan}
 use Rattle.plan.specs.declared.Sense.{Sense}
 use Rattle.plan.specs.declared.Sense.the-variants.{AtMost, AtLeast}
 use Rattle.plan.specs.Days.{day}
 use Rattle.plan.specs.Powers.{power}
-use Rattle.plan.specs.Tasks.{mostResources, mostTasks}
+use Rattle.plan.specs.Tasks.{mostResources, mostBands, mostTasks}
 use Rattle.format.specs.declared.Mark.{Mark}
-use Rattle.format.specs.declared.Mark.the-variants.{PL, RS, TK}
+use Rattle.format.specs.declared.Mark.the-variants.{PL, RS, LB, TK}
 use Rattle.format.specs.declared.Header.{Header}
 use Rattle.format.specs.Numbers.{bytesOf, numberOf, signedOf, unsignedOf}
 
@@ -24,13 +25,15 @@ use Rattle.format.specs.Numbers.{bytesOf, numberOf, signedOf, unsignedOf
 abbrev pub mark : Mark → List ℕ
 mark PL = 80 ∷ 76 ∷ []
 mark RS = 82 ∷ 83 ∷ []
+mark LB = 76 ∷ 66 ∷ []
 mark TK = 84 ∷ 75 ∷ []
 
--- PL: "sense 1, resource count 1, task count 2"; RS: "identifier 4, limit 4";
+-- PL: "sense 1, resource count 1, task count 2"; RS: "identifier 4, limit 4"; LB: "resource place (2 bytes), first day (4), limit (4)";
 -- TK: "set 2 (bit k is resource k), then low and high, 4 each, of origin, duration, end, height"
 abbrev pub widths : Mark → List ℕ
 widths PL = 1 ∷ 1 ∷ 2 ∷ []
 widths RS = 4 ∷ 4 ∷ []
+widths LB = 2 ∷ 4 ∷ 4 ∷ []
 widths TK = 2 ∷ 4 ∷ 4 ∷ 4 ∷ 4 ∷ 4 ∷ 4 ∷ 4 ∷ 4 ∷ []
 
 abbrev pub total : List ℕ → ℕ
@@ -41,7 +44,7 @@ total (w ∷ ws) = w + total ws
 abbrev pub markSize : ℕ
 markSize = 2
 
--- "total": 6, 10 and 36
+-- "total": 6, 10, 12 and 36
 abbrev pub size : Mark → ℕ
 size k = markSize + total (widths k)
 
@@ -80,6 +83,12 @@ resourceNumbers q = unsignedOf (q .id) ∷ unsignedOf (q .limit .0) ∷ []
 
 unfoldable pub resourceFrom : List ℕ → Resource
 resourceFrom ns = record { id = signedOf (field ns 0); limit = power (signedOf (field ns 1)) }
+
+unfoldable pub bandNumbers : Band → List ℕ
+bandNumbers b = b .place ∷ unsignedOf (b .from .0) ∷ unsignedOf (b .limit .0) ∷ []
+
+unfoldable pub bandFrom : List ℕ → Band
+bandFrom ns = record { place = field ns 0; from = day (signedOf (field ns 1)); limit = power (signedOf (field ns 2)) }
 
 unfoldable pub taskNumbers : Task → List ℕ
 taskNumbers t =
@@ -134,16 +143,23 @@ pub record Layout (A : Type 0) : Type 0 where
 abbrev pub resources : Layout Resource
 resources = record { mark = resourceMark; numbers = resourceNumbers; due = RS; from = resourceFrom }
 
+abbrev pub bands : Layout Band
+bands = record { mark = λ b. LB; numbers = bandNumbers; due = LB; from = bandFrom }
+
 abbrev pub tasks : ℕ → Layout Task
 tasks n = record { mark = λ t. taskMark n; numbers = taskNumbers; due = taskMark n; from = taskFrom }
 
--- "One PL, all RS, all TK": where the task records start, and where the file ends, of so many resources and tasks
-abbrev pub tasksFrom : ℕ → ℕ
-tasksFrom n = size PL + n * size (resources .due)
+-- "One PL, all RS", bands "after all RS and before TK", "all TK": where the bands start, where the task records start, and where the file
+-- ends, of so many resources, bands and tasks
+abbrev pub bandsFrom : ℕ → ℕ
+bandsFrom n = size PL + n * size (resources .due)
 
-abbrev pub fileLength : ℕ → ℕ → ℕ
-fileLength n m = tasksFrom n + m * size (taskMark n)
+abbrev pub tasksFrom : ℕ → ℕ → ℕ
+tasksFrom n k = bandsFrom n + k * size (bands .due)
 
--- "at most 9,382 bytes"
+abbrev pub fileLength : ℕ → ℕ → ℕ → ℕ
+fileLength n k m = tasksFrom n k + m * size (taskMark n)
+
+-- 10,150 bytes; without bands "at most 9,382 bytes"
 abbrev pub longestFile : ℕ
-longestFile = fileLength mostResources mostTasks
+longestFile = fileLength mostResources mostBands mostTasks

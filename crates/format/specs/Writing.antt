@@ -1,4 +1,4 @@
--- What is written: "One PL, all RS, all TK, nothing more"; and what the writing call answers and leaves.
+-- What is written: "One PL, all RS, all TK, nothing more", and the bands "after all RS and before TK"; and what the writing call answers and leaves.
 use mathlib.Core.List.{List, [], _∷_, _++_}
 use Prim.Native.Nat.{ℕ, _+_, _<_, _^_}
 use lib.Dec.{ltb}
@@ -9,6 +9,7 @@ use mir.Val.{SFits}
 use Rattle.integers.specs.Hull.{Range}
 use Rattle.plan.specs.declared.Task.{Task}
 use Rattle.plan.specs.declared.Resource.{Resource}
+use Rattle.plan.specs.declared.Band.{Band}
 use Rattle.plan.specs.declared.Checked.{Checked}
 use Rattle.plan.specs.declared.Refusal.the-variants.{BufferShort}
 use Rattle.plan.specs.Days.{daysOf}
@@ -21,7 +22,7 @@ use Rattle.format.specs.declared.Header.{Header}
 use Rattle.format.specs.declared.WriteAnswer.{WriteAnswer}
 use Rattle.format.specs.declared.WriteAnswer.the-variants.{Written, Refused}
 use Rattle.format.specs.Numbers.{bytesOf, unsignedOf}
-use Rattle.format.specs.Format.{Layout, resources, tasks, recordBytes, headerNumbers, senseNumber}
+use Rattle.format.specs.Format.{Layout, resources, bands, tasks, recordBytes, headerNumbers, senseNumber}
 
 -- the records of a list, one after another
 module _ {A : Type 0} (l : Layout A) where
@@ -37,9 +38,9 @@ headerOf f m = record { sense = senseNumber (f .sense); resources = resourceCoun
 unfoldable pub written : Frame → List Task → List ℕ
 written f ts =
     recordBytes PL (headerNumbers (headerOf f (length ts)))
-    ++ (recordsBytes resources (f .resources) ++ recordsBytes (tasks (resourceCount f)) ts)
+    ++ (recordsBytes resources (f .resources) ++ (recordsBytes bands (f .bands) ++ recordsBytes (tasks (resourceCount f)) ts))
 
--- ---- what the fields of a record hold: a set of two bytes, signed numbers of four
+-- ---- what the fields of a record hold: a set or a place of two bytes, signed numbers of four
 pub record Small (s : Range) : Type 0 where
   pub low : SFits w32 (s .low)
   pub high : SFits w32 (s .high)
@@ -58,6 +59,15 @@ Identified q = SFits w32 (q .id)
 pub record ResourceSmall (q : Resource) : Type 0 where
   pub id : Identified q
   pub limit : SFits w32 (q .limit .0)
+
+-- what two bytes hold
+abbrev pub twoBytes : ℕ
+twoBytes = 2 ^ 16
+
+pub record BandSmall (b : Band) : Type 0 where
+  pub place : b .place < twoBytes
+  pub from : SFits w32 (b .from .0)
+  pub limit : SFits w32 (b .limit .0)
 
 -- a range stored at a place: low, then high
 abbrev pub rangeStored : List ℕ → ℕ → Range → List ℕ
@@ -84,7 +94,7 @@ writtenUnless (Checked.Refused f) file out = writeResult (Refused f) out
 unfoldable pub roomFor : ℕ → ℕ → Checked
 roomFor file out = refuseIf (ltb out file) BufferShort
 
--- 1 to 6, then 10; "the writer writes exactly the file's length"
+-- 1 to 6 and 13, then 10; "the writer writes exactly the file's length"
 unfoldable pub writeCall : Frame → List Task → List ℕ → WriteResult
 writeCall f ts out =
     let file = written f ts in

@@ -5,10 +5,11 @@ pub mod table;
 use plan::Refusal;
 use plan::Sense;
 
-// The three marks.
+// The four marks, in a file's order.
 pub enum Mark {
     PL,
     RS,
+    LB,
     TK,
 }
 
@@ -25,9 +26,15 @@ pub enum HeaderAnswer {
     Refused(Refusal),
 }
 
-// What the reader answers: the sense and the two counts, or one refusal.
+// What reading the run of bands answers: how many there are, or one refusal.
+pub enum Run {
+    Through(usize),
+    Refused(Refusal),
+}
+
+// What the reader answers: the sense and how many resources, bands and tasks there are, or one refusal.
 pub enum ReadAnswer {
-    Plan(Sense, usize, usize),
+    Plan(Sense, usize, usize, usize),
     Refused(Refusal),
 }
 

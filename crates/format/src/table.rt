@@ -2,8 +2,9 @@
 ghost use mathlib.Core.Path.{_≡_};
 ghost use Prim.Native.Nat.{_<_, _^_};
 ghost use lib.ListN.{getD};
-ghost use Rattle.format.specs.Format.{mark, senseNumber, senseFrom, tasksFrom, fileLength, longestFile};
+ghost use Rattle.format.specs.Format.{mark, senseNumber, senseFrom, bandsFrom, tasksFrom, fileLength, longestFile};
 use crate::Mark;
+use plan::MOST_BANDS;
 use plan::MOST_RESOURCES;
 use plan::MOST_TASKS;
 use plan::Sense;
@@ -27,6 +28,15 @@ pub const LIMIT: usize = IDENTIFIER + 4;
 
 pub const RS_SIZE: usize = LIMIT + 4;
 
+// LB: "resource place (2 bytes), first day (4), limit (4)".
+pub const BAND_PLACE: usize = MARK_SIZE;
+
+pub const BAND_FROM: usize = BAND_PLACE + 2;
+
+pub const BAND_LIMIT: usize = BAND_FROM + 4;
+
+pub const LB_SIZE: usize = BAND_LIMIT + 4;
+
 // TK: "set 2 (bit k is resource k), then low and high, 4 each, of origin, duration, end, height".
 pub const SET: usize = MARK_SIZE;
 
@@ -40,8 +50,11 @@ pub const HEIGHT: usize = END + 8;
 
 pub const TK_SIZE: usize = HEIGHT + 8;
 
-// "at most 9,382 bytes"
-pub const LONGEST_FILE: usize = PL_SIZE + MOST_RESOURCES * RS_SIZE + MOST_TASKS * TK_SIZE;
+// 10,150 bytes; without bands "at most 9,382 bytes".
+pub const LONGEST_FILE: usize = PL_SIZE
+    + MOST_RESOURCES * RS_SIZE
+    + MOST_BANDS * LB_SIZE
+    + MOST_TASKS * TK_SIZE;
 
 // A mark's two bytes.
 pub fn first_byte(k: Mark) -> u8
@@ -50,6 +63,7 @@ pub fn first_byte(k: Mark) -> u8
     match k {
         Mark::PL => b'P',
         Mark::RS => b'R',
+        Mark::LB => b'L',
         Mark::TK => b'T',
     }
 }
@@ -60,25 +74,34 @@ pub fn second_byte(k: Mark) -> u8
     match k {
         Mark::PL => b'L',
         Mark::RS => b'S',
+        Mark::LB => b'B',
         Mark::TK => b'K',
     }
 }
 
-// Where the task records start behind so many resources.
-pub fn tasks_from(resources: usize) -> usize
-    requires { ⌜ tasksFrom resources < 2 ^ 64 ⌝ }
-    ensures { λ r. ⌜ r ≡ tasksFrom resources ⌝ }
+// Where the bands start behind so many resources.
+pub fn bands_from(resources: usize) -> usize
+    requires { ⌜ bandsFrom resources < 2 ^ 64 ⌝ }
+    ensures { λ r. ⌜ r ≡ bandsFrom resources ⌝ }
 {
     PL_SIZE + resources * RS_SIZE
 }
 
-// The length of the file of so many resources and tasks: of the most of both it is the longest.
-pub fn file_length(resources: usize, tasks: usize) -> usize
-    requires { ⌜ fileLength resources tasks < 2 ^ 64 ⌝ }
-    ensures counted { λ r. ⌜ r ≡ fileLength resources tasks ⌝ }
+// Where the task records start behind so many resources and bands.
+pub fn tasks_from(resources: usize, bands: usize) -> usize
+    requires { ⌜ tasksFrom resources bands < 2 ^ 64 ⌝ }
+    ensures { λ r. ⌜ r ≡ tasksFrom resources bands ⌝ }
+{
+    bands_from(resources) + bands * LB_SIZE
+}
+
+// The length of the file of so many resources, bands and tasks: of the most of each it is the longest.
+pub fn file_length(resources: usize, bands: usize, tasks: usize) -> usize
+    requires { ⌜ fileLength resources bands tasks < 2 ^ 64 ⌝ }
+    ensures counted { λ r. ⌜ r ≡ fileLength resources bands tasks ⌝ }
     ensures longest { λ _. do ⌜ longestFile ≡ (← ⟦LONGEST_FILE⟧ .entry) ⌝ }
 {
-    tasks_from(resources) + tasks * TK_SIZE
+    tasks_from(resources, bands) + tasks * TK_SIZE
 }
 
 // "A sense for the whole plan: 0 at most, 1 at least." A file whose sense byte is above 1 is refused.

@@ -5,6 +5,7 @@ use Prim.Native.Nat.{ℕ}
 use Rattle.plan.specs.declared.Answer.{Answer}
 use Rattle.plan.specs.declared.Task.{Task}
 use Rattle.plan.specs.declared.Resource.{Resource}
+use Rattle.plan.specs.declared.Band.{Band}
 use Rattle.rules.specs.Calls.{Result}
 use Rattle.format.specs.declared.ReadAnswer.{ReadAnswer}
 use Rattle.format.specs.declared.WriteAnswer.{WriteAnswer}
@@ -21,8 +22,10 @@ pub one-call : {x : Result} {a b : Answer} {ts us : List Task} → result a ts �
 one-call e f = (agree (λ (r : Result). r .answer) e f, agree (λ (r : Result). r .tasks) e f)
 
 -- reading
-pub one-read : {x : ReadResult} {a b : ReadAnswer} {qs rs : List Resource} {ts us : List Task} → readResult a qs ts ≡ x → readResult b rs us ≡ x → (a ≡ b) × (qs ≡ rs) × (ts ≡ us)
-one-read e f = (agree (λ (r : ReadResult). r .answer) e f, agree (λ (r : ReadResult). r .resources) e f, agree (λ (r : ReadResult). r .tasks) e f)
+pub one-read : {x : ReadResult} {a b : ReadAnswer} {qs rs : List Resource} {bs cs : List Band} {ts us : List Task} → readResult a qs bs ts ≡ x → readResult b rs cs us ≡ x
+    → (a ≡ b) × (qs ≡ rs) × (bs ≡ cs) × (ts ≡ us)
+one-read e f =
+    (agree (λ (r : ReadResult). r .answer) e f, agree (λ (r : ReadResult). r .resources) e f, agree (λ (r : ReadResult). r .bands) e f, agree (λ (r : ReadResult). r .tasks) e f)
 
 -- writing
 pub one-written : {x : WriteResult} {a b : WriteAnswer} {out later : List ℕ} → writeResult a out ≡ x → writeResult b later ≡ x → (a ≡ b) × (out ≡ later)

@@ -1,16 +1,20 @@
 // A plan at most as the steps work on it, at least: its rows negated on entry, and back.
 ghost use mathlib.Core.Path.{_≡_};
+ghost use mathlib.Core.Bool.{true};
 ghost use mathlib.Core.List.{map};
 ghost use Rattle.integers.specs.Lists.{Each};
+ghost use Rattle.integers.specs.Tests.{all};
 ghost use Rattle.plan.specs.declared.Checked.the-variants.{Accepted};
 ghost use Rattle.plan.specs.Tasks.{Bounded};
 ghost use Rattle.rules.specs.Step.{negated};
-ghost use Rattle.rules.specs.Calls.{check};
-ghost use Rattle.rules.specs.Negation.{negatedResource};
-ghost use Rattle.rows.specs.View.{tasksOf, resourcesOf, atLeast};
-ghost use Rattle.negation.specs.Senses.{LimitsFit, tasksFor, resourcesFor};
+ghost use Rattle.rules.specs.Calls.{bandEnds, check};
+ghost use Rattle.rules.specs.Negation.{negatedResource, negatedBand};
+ghost use Rattle.rows.specs.View.{tasksOf, resourcesOf, bandsOf, atLeast};
+ghost use Rattle.negation.specs.Senses.{LimitsFit, tasksFor, resourcesFor, bandsFor};
+use plan::Band;
 use plan::Sense;
 use plan::Task;
+use rows::BandRow;
 use rows::ResourceRow;
 use rows::TaskRow;
 
@@ -55,16 +59,44 @@ fn negate_resources(q: &mut [ResourceRow])
     }
 }
 
-// At most: every height and limit negated. At least: nothing to do.
-pub fn negate_for(sense: Sense, q: &mut [ResourceRow], s: &mut [TaskRow])
-    requires { ⌜ check (atLeast (now q)) (tasksOf (now s)) ≡ Accepted ⌝ }
+fn negated_band(b: Band) -> Band
+    requires { ⌜ bandEnds b ≡ true ⌝ }
+    ensures { λ r. ⌜ r ≡ negatedBand b ⌝ }
+{
+    let from = b.from;
+    let limit = b.limit;
+    Band {
+        place: b.place,
+        from: from,
+        limit: limit.negated(),
+    }
+}
+
+fn negate_bands(b: &mut [BandRow])
+    requires { ⌜ all bandEnds (bandsOf (now b)) ≡ true ⌝ }
+    ensures { λ _. ⌜ bandsOf (now (b .exit)) ≡ map negatedBand (bandsOf (now (b .entry))) ⌝ }
+{
+    let mut i: usize = 0;
+    while i < b.len() {
+        let band = rows::band_at(b, i);
+        let negated = negated_band(band);
+        rows::put_band(b, i, negated);
+        i += 1;
+    }
+}
+
+// At most: every height and limit negated, those of bands too. At least: nothing to do.
+pub fn negate_for(sense: Sense, q: &mut [ResourceRow], b: &mut [BandRow], s: &mut [TaskRow])
+    requires { ⌜ check (atLeast (now q) (now b)) (tasksOf (now s)) ≡ Accepted ⌝ }
     ensures resources { λ _. ⌜ resourcesOf (now (q .exit)) ≡ resourcesFor sense (resourcesOf (now (q .entry))) ⌝ }
+    ensures bands { λ _. ⌜ bandsOf (now (b .exit)) ≡ bandsFor sense (bandsOf (now (b .entry))) ⌝ }
     ensures tasks { λ _. ⌜ tasksOf (now (s .exit)) ≡ tasksFor sense (tasksOf (now (s .entry))) ⌝ }
 {
     match sense {
         Sense::AtLeast => {}
         Sense::AtMost => {
             negate_resources(q);
+            negate_bands(b);
             negate_tasks(s);
         }
     }

@@ -18,13 +18,13 @@ use Rattle.idle.specs.Mask.{Took}
 use Rattle.profile.specs.Lent.{Lent}
 
 -- the rows hold a plan that passed the checks, and enough is lent to work in
-pub record Ready (q s : List (List ℤ)) (keys spare : List ℕ) (ss : List (List ℤ)) : Type 0 where
-  pub accepted : check (atLeast q) (tasksOf s) ≡ Accepted
-  pub lent : Lent (length s) (length keys) (length spare) (length ss)
+pub record Ready (q b s : List (List ℤ)) (keys spare : List ℕ) (ss : List (List ℤ)) : Type 0 where
+  pub accepted : check (atLeast q b) (tasksOf s) ≡ Accepted
+  pub lent : Lent (length s) (length b) (length keys) (length spare) (length ss)
 
 -- steps that were taken on rows of tasks s, at least, and left s'
-abbrev pub TookRows : (Frame → List Task → Outcome) → List (List ℤ) → Bool → List (List ℤ) → Passed → List (List ℤ) → Type 0
-TookRows step q before s p s' = Took (step (atLeast q)) (atLeast q) before (tasksOf s) p (tasksOf s')
+abbrev pub TookRows : (Frame → List Task → Outcome) → List (List ℤ) → List (List ℤ) → Bool → List (List ℤ) → Passed → List (List ℤ) → Type 0
+TookRows step q b before s p s' = Took (step (atLeast q b)) (atLeast q b) before (tasksOf s) p (tasksOf s')
 
 -- a call that was answered on rows of tasks s and left s'
 abbrev pub AnsweredRows : Call → Frame → List (List ℤ) → Answer → List (List ℤ) → Type 0

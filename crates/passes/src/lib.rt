@@ -16,6 +16,7 @@ ghost use Rattle.passes.specs.Ready.{Ready, TookRows, AnsweredRows};
 use idle::Passed;
 use plan::Answer;
 use plan::Refusal;
+use rows::BandRow;
 use rows::ResourceRow;
 use rows::TaskRow;
 use stretches::StretchRow;
@@ -29,6 +30,7 @@ fn some_touched(changed: bool, touched: u64) -> bool
 // The step of the resource at a place, and what is to be noted of it.
 pub fn resource_step(
     q: &[ResourceRow],
+    b: &[BandRow],
     s: &mut [TaskRow],
     r: usize,
     p: Passed,
@@ -36,13 +38,13 @@ pub fn resource_step(
     spare: &mut [u64],
     ss: &mut [StretchRow],
 ) -> Passed
-    requires { ⌜ (r < length (now q)) × Ready (now q) (now s) (now keys) (now spare) (now ss) ⌝ }
-    requires { ⌜ Idle (p .mask) (atLeast (now q)) (tasksOf (now s)) ⌝ }
-    ensures { λ o. ⌜ TookRows (λ f. resourceStep f r) (now (q .entry)) (p .changed) (now (s .entry)) o (now (s .exit)) ⌝ }
+    requires { ⌜ (r < length (now q)) × Ready (now q) (now b) (now s) (now keys) (now spare) (now ss) ⌝ }
+    requires { ⌜ Idle (p .mask) (atLeast (now q) (now b)) (tasksOf (now s)) ⌝ }
+    ensures { λ o. ⌜ TookRows (λ f. resourceStep f r) (now (q .entry)) (now (b .entry)) (p .changed) (now (s .entry)) o (now (s .exit)) ⌝ }
 {
     let k = r as u64;
     let limit = rows::limit_at(q, r);
-    let o = step::step(s, k, limit, keys, spare, ss);
+    let o = step::step(s, b, k, limit, keys, spare, ss);
     Passed {
         ok: o.ok,
         changed: some_touched(p.changed, o.touched),
@@ -53,21 +55,22 @@ pub fn resource_step(
 // Each resource's step in list order, on what balance left, if its bit says that it may change something.
 fn steps_rows(
     q: &[ResourceRow],
+    b: &[BandRow],
     s: &mut [TaskRow],
     first: Passed,
     keys: &mut [u64],
     spare: &mut [u64],
     ss: &mut [StretchRow],
 ) -> Passed
-    requires { ⌜ (first .ok ≡ true) × Ready (now q) (now s) (now keys) (now spare) (now ss) ⌝ }
-    requires { ⌜ Idle (first .mask) (atLeast (now q)) (tasksOf (now s)) ⌝ }
-    ensures { λ o. ⌜ TookRows (λ f. steps f (places f)) (now (q .entry)) (first .changed) (now (s .entry)) o (now (s .exit)) ⌝ }
+    requires { ⌜ (first .ok ≡ true) × Ready (now q) (now b) (now s) (now keys) (now spare) (now ss) ⌝ }
+    requires { ⌜ Idle (first .mask) (atLeast (now q) (now b)) (tasksOf (now s)) ⌝ }
+    ensures { λ o. ⌜ TookRows (λ f. steps f (places f)) (now (q .entry)) (now (b .entry)) (first .changed) (now (s .entry)) o (now (s .exit)) ⌝ }
 {
     let mut p = first;
     let mut r: usize = 0;
     while r < q.len() {
         if plan::has_resource(p.mask, r as u64) {
-            p = resource_step(q, s, r, p, keys, spare, ss);
+            p = resource_step(q, b, s, r, p, keys, spare, ss);
             if !p.ok {
                 return p;
             }
@@ -80,42 +83,44 @@ fn steps_rows(
 // Balance, then each resource's step.
 pub fn pass_rows(
     q: &[ResourceRow],
+    b: &[BandRow],
     s: &mut [TaskRow],
     mask: u64,
     keys: &mut [u64],
     spare: &mut [u64],
     ss: &mut [StretchRow],
 ) -> Passed
-    requires { ⌜ Ready (now q) (now s) (now keys) (now spare) (now ss) × Idle mask (atLeast (now q)) (tasksOf (now s)) ⌝ }
-    ensures { λ o. ⌜ TookRows pass (now (q .entry)) false (now (s .entry)) o (now (s .exit)) ⌝ }
+    requires { ⌜ Ready (now q) (now b) (now s) (now keys) (now spare) (now ss) × Idle mask (atLeast (now q) (now b)) (tasksOf (now s)) ⌝ }
+    ensures { λ o. ⌜ TookRows pass (now (q .entry)) (now (b .entry)) false (now (s .entry)) o (now (s .exit)) ⌝ }
 {
-    let b = balance::balance(s);
+    let o = balance::balance(s);
     let first = Passed {
-        ok: b.ok,
-        changed: b.touched != 0,
-        mask: mask | b.touched,
+        ok: o.ok,
+        changed: o.touched != 0,
+        mask: mask | o.touched,
     };
-    if !b.ok {
+    if !o.ok {
         return first;
     }
-    steps_rows(q, s, first, keys, spare, ss)
+    steps_rows(q, b, s, first, keys, spare, ss)
 }
 
 // Passes until one changes nothing.
 pub fn settle_rows(
     q: &[ResourceRow],
+    b: &[BandRow],
     s: &mut [TaskRow],
     keys: &mut [u64],
     spare: &mut [u64],
     ss: &mut [StretchRow],
 ) -> Answer
-    requires { ⌜ Ready (now q) (now s) (now keys) (now spare) (now ss) ⌝ }
-    ensures { λ a. ⌜ AnsweredRows Settle (atLeast (now (q .entry))) (now (s .entry)) a (now (s .exit)) ⌝ }
+    requires { ⌜ Ready (now q) (now b) (now s) (now keys) (now spare) (now ss) ⌝ }
+    ensures { λ a. ⌜ AnsweredRows Settle (atLeast (now (q .entry)) (now (b .entry))) (now (s .entry)) a (now (s .exit)) ⌝ }
 {
     let mut mask: u64 = idle::lively_places(s);
     let mut passes: u64 = 0;
     loop {
-        let p = pass_rows(q, s, mask, keys, spare, ss);
+        let p = pass_rows(q, b, s, mask, keys, spare, ss);
         if !p.ok {
             return Answer::Refused(Refusal::NoPlan);
         }

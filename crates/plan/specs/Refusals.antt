@@ -1,7 +1,7 @@
 -- The page's number and place for each refusal.
 use Prim.Native.Nat.{ℕ}
 use Rattle.plan.specs.declared.Refusal.{Refusal}
-use Rattle.plan.specs.declared.Refusal.the-variants.{TooManyTasks, ResourceCount, RepeatedIdentifier, LimitOutside, RangeOutside, SetOutside, NoPlan, WrongMark, CutShort, BufferShort, ListShort, NoSuchResource}
+use Rattle.plan.specs.declared.Refusal.the-variants.{TooManyTasks, ResourceCount, RepeatedIdentifier, LimitOutside, RangeOutside, SetOutside, NoPlan, WrongMark, CutShort, BufferShort, ListShort, NoSuchResource, BandOutside}
 
 -- "Numbered refusals", the first column
 abbrev pub number : Refusal → ℕ
@@ -17,8 +17,9 @@ number (CutShort k) = 9
 number BufferShort = 10
 number ListShort = 11
 number NoSuchResource = 12
+number (BandOutside k) = 13
 
--- the last column: a resource, a task or a byte, counted from 0, or 0
+-- the last column: a resource, a band, a task or a byte, counted from 0, or 0
 abbrev pub place : Refusal → ℕ
 place TooManyTasks = 0
 place ResourceCount = 0
@@ -32,3 +33,4 @@ place (CutShort k) = k
 place BufferShort = 0
 place ListShort = 0
 place NoSuchResource = 0
+place (BandOutside k) = k

@@ -1,4 +1,4 @@
-// The nouns of a plan: days and powers, their ranges, tasks, resources, the sense, and every answer a call can give.
+// The nouns of a plan: days and powers, their ranges, tasks, resources, bands, the sense, and every answer a call can give.
 // "A day number is never added to a power, so the two get separate kinds in the code."
 ghost use mathlib.Core.Path.{_≡_};
 ghost use Prim.Native.Nat.{_<_};
@@ -12,10 +12,12 @@ ghost use Rattle.plan.specs.Days.{day, dayEnds, durationEnds, daysOf, sp
 ghost use Rattle.plan.specs.Powers.{power, powerEnds, powersOf, powerSpanOf, negatedPower, negatedPowers};
 ghost use Rattle.plan.specs.Refusals.{number, place};
 ghost use Rattle.plan.specs.Sets.{setBits, has, only, atMostOne, without};
-ghost use Rattle.plan.specs.Tasks.{mostTasks, mostResources};
+ghost use Rattle.plan.specs.Tasks.{mostTasks, mostResources, mostBands};
 
-// "1 to 16 resources", "0 to 256 tasks".
+// "1 to 16 resources", "up to 64 bands", "0 to 256 tasks".
 pub const MOST_RESOURCES: usize = 16;
+
+pub const MOST_BANDS: usize = 64;
 
 pub const MOST_TASKS: usize = 256;
 
@@ -310,6 +312,13 @@ pub struct Resource {
     pub limit: Power,
 }
 
+// "resource place (2 bytes), first day (4), limit (4)": from that day on the resource at that place has this limit.
+pub struct Band {
+    pub place: usize,
+    pub from: Day,
+    pub limit: Power,
+}
+
 // "A sense for the whole plan: 0 at most, 1 at least."
 pub enum Sense {
     AtMost,
@@ -319,15 +328,17 @@ pub enum Sense {
 // The most that a plan counts; the definitions name these constants.
 pub struct Counts {
     pub resources: usize,
+    pub bands: usize,
     pub tasks: usize,
 }
 
 pub fn most_counts() -> Counts
-    ensures constants { λ r. do ⌜ (r .resources ≡ (← ⟦MOST_RESOURCES⟧ .entry)) × (r .tasks ≡ (← ⟦MOST_TASKS⟧ .entry)) ⌝ }
-    ensures named { λ r. ⌜ (r .resources ≡ mostResources) × (r .tasks ≡ mostTasks) ⌝ }
+    ensures constants { λ r. do ⌜ (r .resources ≡ (← ⟦MOST_RESOURCES⟧ .entry)) × (r .bands ≡ (← ⟦MOST_BANDS⟧ .entry)) × (r .tasks ≡ (← ⟦MOST_TASKS⟧ .entry)) ⌝ }
+    ensures named { λ r. ⌜ (r .resources ≡ mostResources) × (r .bands ≡ mostBands) × (r .tasks ≡ mostTasks) ⌝ }
 {
     Counts {
         resources: MOST_RESOURCES,
+        bands: MOST_BANDS,
         tasks: MOST_TASKS,
     }
 }
@@ -347,7 +358,7 @@ pub enum Narrowed {
     RanOut(Value),
 }
 
-// "Numbered refusals", in the table's order; what a case holds is its place.
+// "Numbered refusals", in the order of their numbers; what a case holds is its place.
 pub enum Refusal {
     TooManyTasks,
     ResourceCount,
@@ -361,6 +372,7 @@ pub enum Refusal {
     BufferShort,
     ListShort,
     NoSuchResource,
+    BandOutside(usize),
 }
 
 impl Refusal {
@@ -381,6 +393,7 @@ impl Refusal {
             Refusal::BufferShort => 10,
             Refusal::ListShort => 11,
             Refusal::NoSuchResource => 12,
+            Refusal::BandOutside(_) => 13,
         }
     }
 
@@ -395,6 +408,7 @@ impl Refusal {
             Refusal::SetOutside(k) => k,
             Refusal::WrongMark(k) => k,
             Refusal::CutShort(k) => k,
+            Refusal::BandOutside(k) => k,
             Refusal::TooManyTasks => 0,
             Refusal::ResourceCount => 0,
             Refusal::NoPlan => 0,

@@ -2,4 +2,5 @@
 pub mod Loops
 pub mod Calm
 pub mod Spread
+pub mod Turns
 pub mod Promise

@@ -1,24 +1,25 @@
 -- The promise: the stretches swept from a resource's sorted events tell each of its tasks what the page says of its days.
 use mathlib.Core.Path.{_≡_, sym, _∙_}
 use mathlib.Core.Bool.{Bool, true, false, not}
-use mathlib.Core.List.{List}
+use mathlib.Core.List.{List, _++_}
 use Prim.Native.Nat.{ℕ, _≤_, _<_}
 use native.Mathlib.Omega.{arith}
 use lib.Dec.{ltb}
-use lib.IntN.{ℤ, pos, negℤ, _-ℤ_, +ℤ-idl}
+use lib.IntN.{ℤ, pos, negℤ, _+ℤ_, _-ℤ_, +ℤ-idl, +ℤ-idr}
 use lib.ListN.{length, take, getD}
 use lib.Seq.{length-take-le, getD-take}
 use lib.Signed.{_≤ℤ_, _<ℤ_, leZ, ltZ}
 use borrow.Author.Tests.{ltb-true, ltb-false}
-use Rattle.integers.specs.Tests.{any}
+use Rattle.integers.specs.Tests.{and, any}
 use Rattle.integers.specs.Lists.{Each, In}
 use Rattle.integers.specs.Hull.{within}
 use Rattle.integers.specs.Ends.{Within}
 use Rattle.integers.specs.Sums.{sumOf}
 use Rattle.integers.proofs.Z.{z, +z, -z, ~z, leZ-in, leZ-out, ltZ-in, ltZ-out}
-use Rattle.integers.proofs.Tests.{clash, by-cases, false-in, and-first, or-left, same-test, not-out, any-out, not-any}
+use Rattle.integers.proofs.Tests.{clash, by-cases, false-in, and-first, and-in, or-left, same-test, not-out, all-append, any-out, not-any}
 use Rattle.integers.proofs.Lists.{Place, any-place, each-in, each-at, each-so, each-all}
 use Rattle.integers.proofs.Hull.{within-is}
+use Rattle.integers.proofs.Sums.{sum-append}
 use Rattle.plan.specs.declared.Task.{Task}
 use Rattle.plan.specs.Sets.{has, only}
 use Rattle.plan.specs.Tasks.{Bounded}
@@ -46,6 +47,7 @@ use Rattle.profile.specs.declared.Level.{Level}
 use Rattle.profile.specs.Sweep.{level, tightIn, sweptFrom, Sweeps}
 use Rattle.profile.specs.Promise.{FirstShort, Profile}
 use Rattle.profile.proofs.Calm.{calm-quiet}
+use Rattle.profile.proofs.Turns.{Turns}
 use Rattle.profile.proofs.Spread.{levelOn, apart, Says, Spread, chain-ordered, chain-rises, swept-spread}
 
 -- ---- a day that cuts no stretch
@@ -91,11 +93,9 @@ short-tight r limit ts i =
     (same-test (ltZ x y) (ltZ (x -ℤ y) (pos 0)) (λ e. ltZ-in (x -ℤ y) (pos 0) (omega (z, -z x y))) (λ e. ltZ-in x y (omega (z, -z x y)))))
     (λ c. rw c)
 
--- ---- the promise, for tasks within their ends and their keys in rising order
-module _ (r : ℕ) (x : ℤ) (ts : List Task) (bs : Each Bounded ts) (ls : List ℕ) (s : Sorted (keysOf r ts) ls) where
-  abbrev limit : ℤ → ℤ
-  limit _ = x
-
+-- ---- the promise, for tasks within their ends, changes that give each day its limit, and the keys of both in rising order
+module _ (r : ℕ) (limit : ℤ → ℤ) (x : ℤ) (cs : List ℕ) (ts : List Task) (bs : Each Bounded ts)
+    (turns : Turns (reachOf r (extremesOf r noExtremes ts)) limit x cs) (ls : List ℕ) (s : Sorted (keysOf r ts ++ cs) ls) where
   abbrev here : Extremes
   here = extremesOf r noExtremes ts
 
@@ -109,41 +109,53 @@ module _ (r : ℕ) (x : ℤ) (ts : List Task) (bs : Each Bounded ts) (ls : List 
   SaysHere u = Says (levelOn start ls) ls (here .low .0) (here .high .0) u
 
   -- a test of every key's day says the same of the keys in either order
-  sorted-days : (q : ℤ → Bool) → onDays q ls ≡ onDays q (keysOf r ts)
-  sorted-days q = every (λ k. q (dayOf k)) (keysOf r ts) ls (s .sums)
+  sorted-days : (q : ℤ → Bool) → onDays q ls ≡ and (onDays q (keysOf r ts)) (onDays q cs)
+  sorted-days q = every (λ k. q (dayOf k)) (keysOf r ts ++ cs) ls (s .sums) ∙ all-append (λ k. q (dayOf k)) (keysOf r ts) cs
 
   spread : Spread here (here .low .0) (levelOn start ls) ls told
   spread =
       let reach = reachOf r here in
+      let both = and-in _ _ (keys-within r noExtremes ts bs) (turns .days) in
       let days : Each (λ k. Within reach (dayOf k)) ls =
-      each-so (λ k h. within-is reach (dayOf k) h) (each-all (λ k. within reach (dayOf k)) ls (sorted-days (within reach) ∙ keys-within r noExtremes ts bs)) in
+      each-so (λ k h. within-is reach (dayOf k) h) (each-all (λ k. within reach (dayOf k)) ls (sorted-days (within reach) ∙ both)) in
       swept-spread here (here .low .0) start 0 (s .rises) (each-so (λ k h. h .least) days) (each-so (λ k h. h .most) days)
 
   told-at : (q : ℕ) → q < length told → SaysHere (getD told q noStretch)
   told-at q h = each-at noStretch q (spread .told) h
 
   -- the levels are the page's slack, and its slack where a day counts
-  slack-is : (i : ℤ) → levelOn start ls i .slack .0 ≡ slackOn r limit ts i
-  unfolding levelOn slackOn
-  slack-is i =
-      rw (s .sums (upTo powerOf i), keys-power r i ts bs)
-      (omega (z, ~z x, +z (negℤ x) (total r ts i), -z (total r ts i) x))
+  module _ (i : ℤ) (from : here .low .0 ≤ℤ i) (to : i <ℤ here .high .0) where
+    slack-is : levelOn start ls i .slack .0 ≡ slackOn r limit ts i
+    unfolding levelOn slackOn
+    slack-is =
+        let t = total r ts i in
+        let c = sumOf (upTo powerOf i) cs in
+        rw (s .sums (upTo powerOf i), sum-append (upTo powerOf i) (keysOf r ts) cs, keys-power r i ts bs)
+        (omega (z, turns .adds i from to, ~z x, ~z (limit i), +z (negℤ x) c, +z t c, +z (negℤ x) (t +ℤ c), -z t (limit i)))
 
-  counts-here : (i : ℤ) → ltZ (pos 0) (levelOn start ls i .sure .0) ≡ counts r ts i
-  unfolding levelOn
-  counts-here i = rw (s .sums (upTo sureOf i), keys-sure r i ts bs, +ℤ-idl (sumOf (sureOne r i) ts)) (sym (counts-is r i ts))
+    counts-here : ltZ (pos 0) (levelOn start ls i .sure .0) ≡ counts r ts i
+    unfolding levelOn
+    counts-here =
+        let u = sumOf (sureOne r i) ts in
+        rw (s .sums (upTo sureOf i), sum-append (upTo sureOf i) (keysOf r ts) cs, keys-sure r i ts bs, turns .sures i, +ℤ-idr u, +ℤ-idl u)
+        (sym (counts-is r i ts))
 
-  tight-is : (i : ℤ) → tightIn (levelOn start ls i) ≡ tightOn r limit ts i
-  unfolding tightIn tightOn
-  tight-is i = rw (counts-here i, slack-is i)
+    tight-is : tightIn (levelOn start ls i) ≡ tightOn r limit ts i
+    unfolding tightIn tightOn
+    tight-is = rw (counts-here, slack-is)
 
   exact : (u : Stretch) → SaysHere u → Exact r limit ts u
-  exact u t = record { slack = λ i e. t .slack i e ∙ slack-is i; tight = λ i e. t .tight i e ∙ tight-is i }
+  exact u t =
+      record {
+        slack = λ i e. let o = on-out u i e in t .slack i e ∙ slack-is i (omega (z, t .first)) (omega (z, t .last));
+        tight = λ i e. let o = on-out u i e in t .tight i e ∙ tight-is i (omega (z, t .first)) (omega (z, t .last));
+      }
 
   -- a sure task's first and last day are among the events' days, and those lie in no stretch
   uncut : {t : Task} → In t ts → (u : Stretch) → SaysHere u → Uncut r t u
   uncut {t} k u w =
-      let days = sure-days (apart u) r bs (sym (sorted-days (apart u)) ∙ w .whole) k in
+      let whole = and-first _ _ (sym (sorted-days (apart u)) ∙ w .whole) in
+      let days = sure-days (apart u) r bs whole k in
       record { same = λ o i e. same-run r t u o days i e }
 
   -- ---- a day in no stretch
@@ -152,8 +164,10 @@ module _ (r : ℕ) (x : ℤ) (ts : List Task) (bs : Each Bounded ts) (ls : List 
     calm p =
         let d = possible-is r i t p in
         let c = extremes-cover r noExtremes k (d .among) in
-        let g = spread .calm i (omega (z, c .low)) (omega (z, c .high)) off in
-        (rw (slack-is i) at (g .bar), rw (tight-is i) at (g .lift))
+        let from : here .low .0 ≤ℤ i = omega (z, c .low) in
+        let to : i <ℤ here .high .0 = omega (z, c .high) in
+        let g = spread .calm i from to off in
+        (rw (slack-is i from to) at (g .bar), rw (tight-is i from to) at (g .lift))
 
     quiet : Quiet r limit ts t i
     quiet =
@@ -177,7 +191,7 @@ module _ (r : ℕ) (x : ℤ) (ts : List Task) (bs : Each Bounded ts) (ls : List 
   possible-short : (i : ℤ) → shortfall r limit ts i ≡ true → (t : Task) × In t ts × (possible r i t ≡ true)
   unfolding shortfall
   possible-short i e =
-      let c = counts-in r i ts (and-first (counts r ts i) (ltZ (total r ts i) x) e) in
+      let c = counts-in r i ts (and-first (counts r ts i) (ltZ (total r ts i) (limit i)) e) in
       let t = c .0 in
       let live = live-bounded t (each-in bs (c .1)) (has-not-zero (t .set) r (only-has (t .set) r (sure-only r i t (c .2)))) in
       (t, c .1, sure-possible r i t live (c .2))
@@ -204,7 +218,7 @@ module _ (r : ℕ) (x : ℤ) (ts : List Task) (bs : Each Bounded ts) (ls : List 
       by-cases (any (onDay i) told) (any-place (onDay i) noStretch told) (λ a. absurd (let l = calm (c .1) i a (c .2) .1 in omega z))
 
   tight-at : (q : ℕ) → q < length told → (i : ℤ) → onDay i (getD told q noStretch) ≡ true → getD told q noStretch .tight .0 ≡ tightOn r limit ts i
-  tight-at q h i on = told-at q h .tight i on ∙ tight-is i
+  tight-at q h i on = exact (getD told q noStretch) (told-at q h) .tight i on
 
   abbrev first-day : ℕ → ℤ
   first-day k = getD told k noStretch .from .0
@@ -256,19 +270,20 @@ module _ (r : ℕ) (x : ℤ) (ts : List Task) (bs : Each Bounded ts) (ls : List 
         tells = tells;
       }
 
--- ---- as the code has them: the events in the first keys, the stretches in the first rows
-pub profiled : (r : ℕ) (x : ℤ) (ts : List Task) (ks : List ℕ) (e : Extremes) (ss : List Stretch) (m k : ℕ) →
+-- ---- as the code has them: the events and the changes in the first keys, the stretches in the first rows
+pub profiled : (r : ℕ) (limit : ℤ → ℤ) (x : ℤ) (cs : List ℕ) (ts : List Task) (ks : List ℕ) (e : Extremes) (ss : List Stretch) (m k : ℕ) →
     Each Bounded ts →
-    ks ≡ keysOf r ts →
+    Turns (reachOf r e) limit x cs →
+    ks ≡ keysOf r ts ++ cs →
     e ≡ extremesOf r noExtremes ts →
     Sweeps e (negℤ x) ks ss m →
     FirstShort (take m ss) k →
-    Profile r (λ _. x) ts (take m ss) (ltb k m)
-profiled r x ts ks e ss m k bs p q w s =
-    let o : Sorted (keysOf r ts) (w .keys) = rw p at (w .sorted) in
+    Profile r limit ts (take m ss) (ltb k m)
+profiled r limit x cs ts ks e ss m k bs turns p q w s =
+    let o : Sorted (keysOf r ts ++ cs) (w .keys) = rw p at (w .sorted) in
     let c = rw q at (w .are) in
     let l : length (take m ss) ≡ m = length-take-le m ss (w .few) in
-    rw (← c, l) at (profile-of r x ts bs (w .keys) o k (rw c at s))
+    rw (← c, l) at (profile-of r limit x cs ts bs (rw q at turns) (w .keys) o k (rw c at s))
 
 -- the first short of all the rows, found among the first n
 pub first-in : (ss : List Stretch) (n k : ℕ) → n ≤ length ss → k ≤ n →

@@ -1,8 +1,8 @@
-// One resource's days as stretches of equal days: each task that may stand there gives events, the events are sorted by day, and one run
-// over them writes a stretch up to each event's day with what has been added up by then. Only stretches that some rule could touch are kept.
-// Cost: n log n for n tasks; no day is visited, and no task for a stretch.
+// One resource's days as stretches of equal days: each task that may stand there gives events, each of its bands one more, the events are
+// sorted by day, and one run over them writes a stretch up to each event's day with what has been added up by then. Only stretches that
+// some rule could touch are kept. Cost: n log n for n tasks and bands; no day is visited, and no task for a stretch.
 ghost use mathlib.Core.Path.{_≡_};
-ghost use Prim.Native.Nat.{_*_, _≤_, _<_};
+ghost use Prim.Native.Nat.{_+_, _*_, _≤_, _<_};
 ghost use lib.IntN.{_+ℤ_};
 ghost use lib.ListN.{length, take};
 ghost use lib.Signed.{ltZ};
@@ -11,24 +11,29 @@ ghost use mir.Val.{SFits};
 ghost use Rattle.integers.specs.Ends.{Within};
 ghost use Rattle.integers.specs.Lists.{Each};
 ghost use Rattle.plan.specs.Powers.{power, powerEnds};
-ghost use Rattle.plan.specs.Tasks.{mostTasks, Bounded};
-ghost use Rattle.rows.specs.View.{tasksOf};
+ghost use Rattle.plan.specs.Tasks.{mostBands, mostTasks, Bounded};
+ghost use Rattle.rules.specs.Frame.{limitFrom};
+ghost use Rattle.rules.specs.Rises.{Banded};
+ghost use Rattle.rows.specs.View.{tasksOf, bandsOf};
 ghost use Rattle.stretches.specs.View.{stretchesOf};
 ghost use Rattle.events.specs.Keys.{powerOf, sureOf};
 ghost use Rattle.events.specs.Laid.{Laid};
+ghost use Rattle.levels.specs.Levels.{bandKeys};
 ghost use Rattle.profile.specs.Lent.{mostEvents, Lent, Asks};
 ghost use Rattle.profile.specs.Promise.{FirstShort, Profile};
 ghost use Rattle.profile.specs.Sweep.{changed, tightIn, stretchIn, worth, worthy, sweptFrom, Sweeps};
 use events::Count;
 use events::Extremes;
+use levels::Levels;
 use plan::Day;
 use plan::Power;
+use rows::BandRow;
 use rows::TaskRow;
 use stretches::Stretch;
 use stretches::StretchRow;
 
 // What is lent for the largest plan: keys for every event, half as many for the sort, and a stretch up to each event and one behind the last.
-pub const MOST_KEYS: usize = events::EVENTS_A_TASK * plan::MOST_TASKS;
+pub const MOST_KEYS: usize = events::EVENTS_A_TASK * plan::MOST_TASKS + plan::MOST_BANDS;
 
 pub const MOST_SPARE: usize = MOST_KEYS / 2;
 
@@ -104,7 +109,7 @@ fn put_worthy(s: &mut [StretchRow], n: usize, t: Stretch, e: Extremes) -> usize
 
 // the stretches that rising keys make, each with a start on which the sums have been added up
 fn sweep(keys: &[u64], start: Power, e: Extremes, s: &mut [StretchRow]) -> usize
-    requires { ⌜ (length (now keys) ≤ mostEvents mostTasks) × (length (now keys) < length (now s)) ⌝ }
+    requires { ⌜ (length (now keys) ≤ mostEvents mostTasks mostBands) × (length (now keys) < length (now s)) ⌝ }
     requires { ⌜ Within powerEnds (start .0) ⌝ }
     ensures { λ r. ⌜ Laid (stretchesOf (now (s .entry))) (stretchesOf (now (s .exit))) 0 r (sweptFrom e (start .0) (now (keys .entry))) ⌝ }
     ensures { λ r. ⌜ r ≤ length (now (s .exit)) ⌝ }
@@ -138,7 +143,7 @@ fn sweep_events(
     e: Extremes,
     s: &mut [StretchRow],
 ) -> usize
-    requires { ⌜ (n ≤ length (now keys)) × (n ≤ mostEvents mostTasks) × (n ≤ 2 * length (now spare)) × (n < length (now s)) ⌝ }
+    requires { ⌜ (n ≤ length (now keys)) × (n ≤ mostEvents mostTasks mostBands) × (n ≤ 2 * length (now spare)) × (n < length (now s)) ⌝ }
     requires { ⌜ Within powerEnds (start .0) ⌝ }
     ensures { λ r. ⌜ Sweeps e (start .0) (take n (now (keys .entry))) (stretchesOf (now (s .exit))) r ⌝ }
 {
@@ -174,25 +179,48 @@ pub struct Profiled {
     pub short: bool,
 }
 
+// The keys of r's bands behind the first n, and its limit on the first day: its own where there is no band, as in most plans.
+fn put_levels(
+    b: &[BandRow],
+    r: u64,
+    limit: Power,
+    e: Extremes,
+    keys: &mut [u64],
+    n: usize,
+) -> Levels
+    requires { ⌜ (n + length (now b) ≤ length (now keys)) × Banded r (bandsOf (now b)) × Within powerEnds (limit .0) ⌝ }
+    ensures { λ l. ⌜ Laid (now (keys .entry)) (now (keys .exit)) n (l .events) (bandKeys r (e .low .0) (e .high .0) (limit .0) (bandsOf (now (b .entry)))) ⌝ }
+    ensures { λ l. ⌜ l .start ≡ power (limitFrom r (limit .0) (bandsOf (now (b .entry))) (e .low .0)) ⌝ }
+    ensures { λ l. ⌜ (l .events ≤ n + length (now (b .entry))) × Within powerEnds (l .start .0) ⌝ }
+{
+    if b.len() == 0 {
+        return levels::own_limit(n, limit);
+    }
+    levels::put_bands(b, r, limit, e.low, e.high, keys, n)
+}
+
 // The stretches of resource r, in ss. What is lent in keys and spare is worked in, and what it holds is of no account.
 pub fn profile(
     s: &[TaskRow],
+    b: &[BandRow],
     r: u64,
     limit: Power,
     keys: &mut [u64],
     spare: &mut [u64],
     ss: &mut [StretchRow],
 ) -> Profiled
-    requires { ⌜ Asks r limit (length (now s)) ⌝ }
-    requires { ⌜ Lent (length (now s)) (length (now keys)) (length (now spare)) (length (now ss)) ⌝ }
+    requires { ⌜ Asks r limit (bandsOf (now b)) (length (now s)) ⌝ }
+    requires { ⌜ Lent (length (now s)) (length (now b)) (length (now keys)) (length (now spare)) (length (now ss)) ⌝ }
     requires { ⌜ Each Bounded (tasksOf (now s)) ⌝ }
     ensures { λ q. ⌜ q .stretches ≤ length (now (ss .exit)) ⌝ }
-    ensures { λ q. ⌜ Profile r (λ _. limit .0) (tasksOf (now (s .entry))) (take (q .stretches) (stretchesOf (now (ss .exit)))) (q .short) ⌝ }
+    ensures { λ q. ⌜ Profile r (limitFrom r (limit .0) (bandsOf (now (b .entry)))) (tasksOf (now (s .entry))) (take (q .stretches) (stretchesOf (now (ss .exit)))) (q .short) ⌝ }
 {
     let q = events::collect(s, r, keys);
     let n = q.events;
     let e = q.extremes;
-    let m = sweep_events(keys, n, spare, limit.negated(), e, ss);
+    let l = put_levels(b, r, limit, e, keys, n);
+    let start = l.start;
+    let m = sweep_events(keys, l.events, spare, start.negated(), e, ss);
     let k = first_short(ss, m);
     Profiled {
         stretches: m,

@@ -7,7 +7,7 @@ use native.Mathlib.Nat.{zero-add}
 use lib.ListN.{length, take}
 use lib.Seq.{sets, length-sets, length-take-le}
 use borrow.Author.Tests.{le-ltb}
-use Rattle.plan.specs.Tasks.{mostResources, mostTasks}
+use Rattle.plan.specs.Tasks.{mostResources, mostBands, mostTasks}
 use Rattle.format.specs.declared.HeaderAnswer.{HeaderAnswer}
 use Rattle.format.specs.Reading.{readHeader, listsDue, planAfter, readPlan, lentAfter, readLent}
 use Rattle.format.proofs.Files.{header-few}
@@ -19,13 +19,13 @@ told out text {later} {written} {r} p h e =
     let few : r ≤ length later = omega (arith, p .ends, p .short) in
     (p .stored ∙ ap (sets out 0) e, (p .ends ∙ zero-add (length written) ∙ ap length e, (few, sym (length-take-le r later few))))
 
-after-most : (file : List ℕ) (a : HeaderAnswer) → readHeader file ≡ a → lentAfter mostResources mostTasks file a ≡ planAfter file a
+after-most : (file : List ℕ) (a : HeaderAnswer) → readHeader file ≡ a → lentAfter mostResources mostBands mostTasks file a ≡ planAfter file a
 unfolding listsDue
 after-most file (HeaderAnswer.Counts h) e =
     let w = header-few file e in
     rw (le-ltb mostResources (h .resources) (w .resources), le-ltb mostTasks (h .tasks) (w .tasks))
 after-most file (HeaderAnswer.Refused f) e = refl
 
-pub lent-most : (file : List ℕ) → readLent mostResources mostTasks file ≡ readPlan file
+pub lent-most : (file : List ℕ) → readLent mostResources mostBands mostTasks file ≡ readPlan file
 unfolding readLent readPlan
 lent-most file = after-most file (readHeader file) refl

@@ -15,12 +15,15 @@ use format::ReadAnswer;
 use format::table;
 use plan::Answer;
 use plan::Call;
+use plan::MOST_BANDS;
 use plan::MOST_RESOURCES;
 use plan::MOST_TASKS;
 use plan::Sense;
 use profile::MOST_KEYS;
 use profile::MOST_SPARE;
 use profile::MOST_STRETCHES;
+use rows::BAND_CELLS;
+use rows::BandRow;
 use rows::RESOURCE_CELLS;
 use rows::ResourceRow;
 use rows::TASK_CELLS;
@@ -40,9 +43,15 @@ fn put_plan(n: u64, s: &[TaskRow], out: &mut [u8]) -> usize
 }
 
 // A plan that passed the checks, settled.
-fn report_plan(sense: Sense, q: &mut [ResourceRow], s: &mut [TaskRow], out: &mut [u8]) -> usize
-    requires { ⌜ (check (frameOf sense (now q)) (tasksOf (now s)) ≡ Accepted) × (mostText ≤ length (now out)) ⌝ }
-    ensures { λ r. ⌜ Put (now (out .entry)) 0 (resultText (callOf Settle (frameOf sense (now (q .entry))) (tasksOf (now (s .entry))))) mostText (now (out .exit)) r ⌝ }
+fn report_plan(
+    sense: Sense,
+    q: &mut [ResourceRow],
+    b: &mut [BandRow],
+    s: &mut [TaskRow],
+    out: &mut [u8],
+) -> usize
+    requires { ⌜ (check (frameOf sense (now q) (now b)) (tasksOf (now s)) ≡ Accepted) × (mostText ≤ length (now out)) ⌝ }
+    ensures { λ r. ⌜ Put (now (out .entry)) 0 (resultText (callOf Settle (frameOf sense (now (q .entry)) (now (b .entry))) (tasksOf (now (s .entry))))) mostText (now (out .exit)) r ⌝ }
 {
     let mut keys = [0u64; MOST_KEYS];
     let mut spare = [0u64; MOST_SPARE];
@@ -52,6 +61,7 @@ fn report_plan(sense: Sense, q: &mut [ResourceRow], s: &mut [TaskRow], out: &mut
         Call::Settle,
         sense,
         q,
+        b,
         s,
         &mut keys,
         &mut spare,
@@ -71,13 +81,27 @@ pub fn report(file: &[u8], out: &mut [u8]) -> usize
     ensures within { λ r. ⌜ (r ≤ length (now (out .exit))) × (r ≡ length (take r (now (out .exit)))) ⌝ }
 {
     let resource = [0i64; RESOURCE_CELLS];
+    let band = [0i64; BAND_CELLS];
     let task = [0i64; TASK_CELLS];
     let mut resources = [resource; MOST_RESOURCES];
+    let mut bands = [band; MOST_BANDS];
     let mut tasks = [task; MOST_TASKS];
-    match file::read_lent(file, MOST_RESOURCES, MOST_TASKS, &mut resources, &mut tasks) {
+    match file::read_lent(
+        file,
+        MOST_RESOURCES,
+        MOST_BANDS,
+        MOST_TASKS,
+        &mut resources,
+        &mut bands,
+        &mut tasks,
+    ) {
         ReadAnswer::Refused(f) => text::put_refused(out, f),
-        ReadAnswer::Plan(sense, n, m) => {
-            report_plan(sense, &mut resources[..n], &mut tasks[..m], out)
-        }
+        ReadAnswer::Plan(sense, n, k, m) => report_plan(
+            sense,
+            &mut resources[..n],
+            &mut bands[..k],
+            &mut tasks[..m],
+            out,
+        ),
     }
 }

@@ -1,4 +1,4 @@
--- Laws of the view: its length, what stands at a place, what a store changes, and its first part. Both views map a function over rows,
+-- Laws of the view: its length, what stands at a place, what a store changes, and its first part. Each view maps a function over rows,
 -- so each law is one of `map`.
 use mathlib.Core.Path.{_≡_}
 use mathlib.Core.List.{List, [], map}
@@ -6,8 +6,8 @@ use Prim.Native.Nat.{ℕ}
 use lib.IntN.{ℤ}
 use lib.ListN.{length, take, getD, set, length-map, List·getD-map}
 use Rattle.integers.proofs.Loops.{map-set, map-take}
-use Rattle.plan.specs.Tasks.{noTask, noResource}
-use Rattle.rows.specs.View.{taskOf, tasksOf, idOf, resourceOf, resourcesOf}
+use Rattle.plan.specs.Tasks.{noTask, noResource, noBand}
+use Rattle.rows.specs.View.{taskOf, tasksOf, idOf, resourceOf, resourcesOf, bandOf, bandsOf}
 
 -- ---- tasks
 pub length-tasks : (s : List (List ℤ)) → length (tasksOf s) ≡ length s
@@ -42,3 +42,20 @@ resources-set = map-set resourceOf
 pub resources-take : (n : ℕ) (s : List (List ℤ)) → resourcesOf (take n s) ≡ take n (resourcesOf s)
 unfolding resourcesOf
 resources-take = map-take resourceOf
+
+-- ---- bands
+pub length-bands : (s : List (List ℤ)) → length (bandsOf s) ≡ length s
+unfolding bandsOf
+length-bands s = length-map s bandOf
+
+pub bands-at : (s : List (List ℤ)) (i : ℕ) → getD (bandsOf s) i noBand ≡ bandOf (getD s i [])
+unfolding bandsOf bandOf noBand
+bands-at s i = List·getD-map bandOf s i []
+
+pub bands-set : (s : List (List ℤ)) (i : ℕ) (r : List ℤ) → bandsOf (set s i r) ≡ set (bandsOf s) i (bandOf r)
+unfolding bandsOf
+bands-set = map-set bandOf
+
+pub bands-take : (n : ℕ) (s : List (List ℤ)) → bandsOf (take n s) ≡ take n (bandsOf s)
+unfolding bandsOf
+bands-take = map-take bandOf

@@ -1,3 +1,3 @@
--- Rows of numbers as tasks and resources, and what a step says of those that it changed.
+-- Rows of numbers as tasks, resources and bands, and what a step says of those that it changed.
 pub mod View
 pub mod Changes

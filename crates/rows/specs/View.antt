@@ -1,4 +1,5 @@
--- The view: a row of nine numbers as a task, a row of two as a resource, lists of rows as lists of these, and rows of resources as a frame.
+-- The view: a row of nine numbers as a task, of two as a resource, of three as a band, lists of rows as lists of these, and rows of resources
+-- and bands as a frame.
 use mathlib.Core.Bool.{cond}
 use mathlib.Core.List.{List, map}
 use Prim.Native.Nat.{ℕ, _-_, _^_}
@@ -10,13 +11,14 @@ use Rattle.integers.specs.Lists.{cell}
 use Rattle.plan.specs.declared.Task.{Task}
 use Rattle.plan.specs.declared.Power.{Power}
 use Rattle.plan.specs.declared.Resource.{Resource}
+use Rattle.plan.specs.declared.Band.{Band}
 use Rattle.plan.specs.declared.Sense.{Sense}
 use Rattle.plan.specs.declared.Sense.the-variants.{AtLeast}
 use Rattle.plan.specs.declared.Span.{Span}
 use Rattle.plan.specs.declared.PowerSpan.{PowerSpan}
 use Rattle.plan.specs.Days.{day}
 use Rattle.plan.specs.Powers.{power}
-use Rattle.rules.specs.Frame.{Frame, plain}
+use Rattle.rules.specs.Frame.{Frame, framed}
 
 abbrev pub daysIn : List ℤ → ℕ → ℕ → Span
 daysIn r a b = record { low = day (cell r a); high = day (cell r b) }
@@ -55,10 +57,17 @@ resourcesOf s = map resourceOf s
 abbrev pub withLimit : Power → Resource → Resource
 withLimit limit q = record { id = q .id; limit = limit }
 
--- what no step changes, of a plan in rows
-abbrev pub frameOf : Sense → List (List ℤ) → Frame
-frameOf sense q = plain sense (resourcesOf q)
+-- place, first day, limit; the place keeps its 64 bits
+unfoldable pub bandOf : List ℤ → Band
+bandOf r = record { place = ofZ w64 (cell r 0); from = day (cell r 1); limit = power (cell r 2) }
+
+unfoldable pub bandsOf : List (List ℤ) → List Band
+bandsOf s = map bandOf s
+
+-- what no step changes, of a plan in rows of resources and bands
+abbrev pub frameOf : Sense → List (List ℤ) → List (List ℤ) → Frame
+frameOf sense q b = framed sense (resourcesOf q) (bandsOf b)
 
 -- as the steps see it
-abbrev pub atLeast : List (List ℤ) → Frame
-atLeast q = frameOf AtLeast q
+abbrev pub atLeast : List (List ℤ) → List (List ℤ) → Frame
+atLeast q b = frameOf AtLeast q b

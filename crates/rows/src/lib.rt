@@ -1,5 +1,5 @@
-// The core's lists: a task stands in a row of nine numbers, a resource in a row of two, a list is a lent slice of rows.
-// Slices of rows of numbers are lent and changed in place; the view in specs/ says which tasks and resources they hold.
+// The core's lists: a task stands in a row of nine numbers, a resource in a row of two, a band in a row of three, a list is a lent slice of rows.
+// Slices of rows of numbers are lent and changed in place; the view in specs/ says which tasks, resources and bands they hold.
 ghost use mathlib.Core.Path.{_≡_};
 ghost use Prim.Native.Nat.{_<_};
 ghost use mir.Syntax.{w64};
@@ -7,10 +7,11 @@ ghost use mir.Val.{ofZ};
 ghost use lib.ListN.{length, getD, set};
 ghost use Rattle.integers.specs.Tests.{if};
 ghost use Rattle.plan.specs.Sets.{union};
-ghost use Rattle.plan.specs.Tasks.{noTask, noResource};
+ghost use Rattle.plan.specs.Tasks.{noTask, noResource, noBand};
 ghost use Rattle.rules.specs.Settle.{sameRanges, sameTask};
 ghost use Rattle.rows.specs.Changes.{seenBy};
-ghost use Rattle.rows.specs.View.{taskOf, tasksOf, idOf, resourceOf, resourcesOf, withLimit};
+ghost use Rattle.rows.specs.View.{taskOf, tasksOf, idOf, resourceOf, resourcesOf, withLimit, bandOf, bandsOf};
+use plan::Band;
 use plan::Day;
 use plan::Power;
 use plan::PowerSpan;
@@ -28,12 +29,17 @@ pub const RESOURCE_CELLS: usize = 2;
 
 pub type ResourceRow = [i64; RESOURCE_CELLS];
 
+// A row: place, first day and limit.
+pub const BAND_CELLS: usize = 3;
+
+pub type BandRow = [i64; BAND_CELLS];
+
 // The largest number of 64 bits, and the first whose top bit is set.
 const ALL_BITS: u64 = 0xffff_ffff_ffff_ffff;
 
 const TOP_BIT: u64 = 1 << 63;
 
-// A cell as a set, and back: the same 64 bits.
+// A cell as a number of 64 bits (a set, a place), and back: the same bits.
 fn set_of(x: i64) -> u64
     ensures { λ r. ⌜ r ≡ ofZ w64 x ⌝ }
 {
@@ -180,6 +186,38 @@ pub fn put_limit(s: &mut [ResourceRow], i: usize, limit: Power)
 {
     let r = s[i];
     s[i] = [r[0], limit.0];
+}
+
+fn band_of(r: BandRow) -> Band
+    ensures { λ b. ⌜ b ≡ bandOf r ⌝ }
+{
+    Band {
+        place: set_of(r[0]) as usize,
+        from: Day(r[1]),
+        limit: Power(r[2]),
+    }
+}
+
+fn band_row(b: Band) -> BandRow
+    ensures { λ r. ⌜ bandOf r ≡ b ⌝ }
+{
+    [set_in(b.place as u64), b.from.0, b.limit.0]
+}
+
+pub fn band_at(s: &[BandRow], i: usize) -> Band
+    requires { ⌜ i < length (now s) ⌝ }
+    ensures { λ r. ⌜ r ≡ getD (bandsOf (now (s .entry))) i noBand ⌝ }
+{
+    let r = s[i];
+    band_of(r)
+}
+
+pub fn put_band(s: &mut [BandRow], i: usize, b: Band)
+    requires { ⌜ i < length (now s) ⌝ }
+    ensures { λ _. ⌜ bandsOf (now (s .exit)) ≡ set (bandsOf (now (s .entry))) i b ⌝ }
+{
+    let r = band_row(b);
+    s[i] = r;
 }
 
 fn same_ranges(a: Task, b: Task) -> bool

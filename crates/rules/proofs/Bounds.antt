@@ -1,4 +1,4 @@
--- How large the numbers of an answer get: a pass count is far below 2^32, and the place of a refusal by the entry checks is one of the tasks'.
+-- How large the numbers of an answer get: a pass count is far below 2^32, and the place of a refusal by the entry checks is below 256.
 use mathlib.Core.Path.{_≡_, refl, subst}
 use mathlib.Core.Bool.{Bool, true, false, not}
 use mathlib.Core.List.{List, [], _∷_}
@@ -7,30 +7,31 @@ use native.Mathlib.Omega.{arith}
 use lib.IntN.{ℤ, _-ℤ_, natAbs}
 use lib.Dec.{eqb, ltb}
 use lib.ListN.{length}
-use borrow.Author.Tests.{ltb-false}
+use borrow.Author.Tests.{ltb-true, ltb-false, not-false}
 use Rattle.integers.specs.Whole.{eqZ}
-use Rattle.integers.specs.Tests.{or, any}
+use Rattle.integers.specs.Tests.{and, or, any}
 use Rattle.integers.specs.Hull.{Range, within}
 use Rattle.integers.specs.Lists.{Each}
 use Rattle.integers.specs.Lists.Each.{nothing, also}
 use Rattle.integers.proofs.Z.{z}
-use Rattle.integers.proofs.Tests.{clash, by-cases, or-second}
+use Rattle.integers.proofs.Tests.{clash, by-cases, and-first, or-second}
 use Rattle.integers.proofs.Hull.{width-most}
 use Rattle.plan.specs.declared.Task.{Task}
 use Rattle.plan.specs.declared.Resource.{Resource}
+use Rattle.plan.specs.declared.Band.{Band}
 use Rattle.plan.specs.declared.Refusal.{Refusal}
-use Rattle.plan.specs.declared.Refusal.the-variants.{TooManyTasks, ResourceCount, RepeatedIdentifier, LimitOutside, RangeOutside, SetOutside}
+use Rattle.plan.specs.declared.Refusal.the-variants.{TooManyTasks, ResourceCount, RepeatedIdentifier, LimitOutside, RangeOutside, SetOutside, BandOutside}
 use Rattle.plan.specs.declared.Checked.{Checked}
 use Rattle.plan.specs.declared.Checked.the-variants.{Accepted, Refused}
 use Rattle.plan.specs.Refusals.{place}
 use Rattle.plan.specs.Days.{daysOf, dayEnds, durationEnds}
 use Rattle.plan.specs.Powers.{powersOf, powerEnds}
 use Rattle.plan.specs.Sets.{size}
-use Rattle.plan.specs.Tasks.{mostTasks, mostResources, Bounded, TaskFits}
+use Rattle.plan.specs.Tasks.{mostTasks, mostResources, mostBands, Bounded, TaskFits}
 use Rattle.rules.specs.Frame.{Frame, resourceCount}
 use Rattle.rules.specs.Settle.{room, rooms, settle}
 use Rattle.rules.specs.Settle.Settled.{After}
-use Rattle.rules.specs.Calls.{orElse, refuseIf, rangesFit, setFits, tasksFit, check, repeats, limits}
+use Rattle.rules.specs.Calls.{orElse, refuseIf, rangesFit, setFits, tasksFit, check, repeats, limits, earlier, bandFits, bandsAfter, bandsFit}
 use Rattle.rules.proofs.Checks.{accepts}
 use Rattle.rules.proofs.Theorems.{settle-bound}
 
@@ -128,11 +129,27 @@ tasks-placed b n k (t ∷ ts) l =
     placed-unless b (not (rangesFit t)) (RangeOutside k) (orElse (refuseIf (not (setFits n t)) (SetOutside k)) (tasksFit n (suc k) ts)) (omega arith)
     (λ e. placed-unless b (not (setFits n t)) (SetOutside k) (tasksFit n (suc k) ts) (omega arith) (λ f. tasks-placed b n (suc k) ts (omega arith)))
 
+-- a band is named up to the 65th, and none after it
+bands-after-placed : (b n k : ℕ) (a : Band) (bs : List Band) → k ≤ mostBands → mostBands ≤ b → PlacedTo b (bandsAfter n k a bs)
+unfolding bandsAfter
+bands-after-placed b n k a [] l m = tt
+bands-after-placed b n k a (x ∷ bs) l m =
+    let fit = and (earlier a x) (bandFits n x) in
+    placed-unless b (not (and (ltb k mostBands) fit)) (BandOutside k) (bandsAfter n (suc k) x bs) (omega arith) λ e.
+    let few = ltb-true k mostBands (and-first (ltb k mostBands) fit (not-false (and (ltb k mostBands) fit) e)) in
+    bands-after-placed b n (suc k) x bs (omega arith) m
+
+bands-placed : (b n : ℕ) (bs : List Band) → mostBands ≤ b → PlacedTo b (bandsFit n bs)
+unfolding bandsFit
+bands-placed b n [] m = tt
+bands-placed b n (x ∷ bs) m =
+    placed-unless b (not (bandFits n x)) (BandOutside 0) (bandsAfter n 1 x bs) (omega arith) λ e. bands-after-placed b n 1 x bs (omega arith) m
+
 -- the last place that a plan can name
 abbrev pub lastPlace : ℕ
 lastPlace = mostTasks - 1
 
--- lists of any length: a list that is too long is refused before any place of it is named
+-- lists of any length: too many tasks or resources are refused before any place of them is named, and of bands none past the 65th is named
 pub check-placed : (f : Frame) (ts : List Task) → PlacedTo lastPlace (check f ts)
 unfolding check
 check-placed f ts =
@@ -140,13 +157,15 @@ check-placed f ts =
     let n = resourceCount f in
     let none = eqb n 0 in
     let more = ltb mostResources n in
-    let rest = orElse (limits 0 qs) (tasksFit n 0 ts) in
+    let last = orElse (bandsFit n (f .bands)) (tasksFit n 0 ts) in
+    let rest = orElse (limits 0 qs) last in
     placed-unless lastPlace (ltb mostTasks (length ts)) TooManyTasks (orElse (refuseIf (or none more) ResourceCount) (orElse (repeats 0 [] qs) rest)) (omega arith) λ m.
     placed-unless lastPlace (or none more) ResourceCount (orElse (repeats 0 [] qs) rest) (omega arith) λ c.
     let few-tasks = ltb-false mostTasks (length ts) m in
     let few = ltb-false mostResources n (by-cases more (λ e. clash (or none more) (or-second none more e) c) (λ e. e)) in
     placed-then lastPlace (repeats 0 [] qs) rest (repeats-placed lastPlace 0 [] qs (omega (arith, few))) λ r.
-    placed-then lastPlace (limits 0 qs) (tasksFit n 0 ts) (limits-placed lastPlace 0 qs (omega (arith, few))) λ s.
+    placed-then lastPlace (limits 0 qs) last (limits-placed lastPlace 0 qs (omega (arith, few))) λ s.
+    placed-then lastPlace (bandsFit n (f .bands)) (tasksFit n 0 ts) (bands-placed lastPlace n (f .bands) (omega arith)) λ t.
     tasks-placed lastPlace n 0 ts (omega (arith, few-tasks))
 
 pub check-place : (f : Frame) (ts : List Task) (e : Refusal) → check f ts ≡ Refused e → place e ≤ lastPlace

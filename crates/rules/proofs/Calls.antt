@@ -1,4 +1,4 @@
--- Each call by its refusals: 1 to 6, then 12, then 7; and what a call leaves holds the same allowed plans.
+-- Each call by its refusals: 1 to 6 and 13, then 12, then 7; and what a call leaves holds the same allowed plans.
 use mathlib.Core.Path.{_≡_, ap, subst}
 use mathlib.Core.Bool.{true, false}
 use mathlib.Core.List.{List}

@@ -7,9 +7,10 @@ use mathlib.Core.List.{List, [], _∷_}
 use mathlib.Core.Bool.{Bool, true, false, not}
 use lib.Dec.{eqb, ltb}
 use lib.ListN.{length, getD}
+use lib.IntN.{ℤ}
 use lib.Signed.{_≤ℤ_}
 use borrow.Author.Tests.{ltb-false, eqb-false, not-false}
-use Rattle.integers.specs.Tests.{or}
+use Rattle.integers.specs.Tests.{or, all}
 use Rattle.integers.proofs.Tests.{or-none}
 use Rattle.integers.specs.Hull.{Range, within}
 use Rattle.integers.specs.Ends.{InEnds, Within}
@@ -20,6 +21,7 @@ use Rattle.integers.proofs.Hull.{Sub, within-is}
 use Rattle.integers.proofs.Lists.{each-so}
 use Rattle.plan.specs.declared.Task.{Task}
 use Rattle.plan.specs.declared.Resource.{Resource}
+use Rattle.plan.specs.declared.Band.{Band}
 use Rattle.plan.specs.declared.Sense.{Sense}
 use Rattle.plan.specs.declared.Refusal.{Refusal}
 use Rattle.plan.specs.declared.Refusal.the-variants.{TooManyTasks, ResourceCount, LimitOutside, RangeOutside, SetOutside}
@@ -27,10 +29,12 @@ use Rattle.plan.specs.declared.Checked.{Checked}
 use Rattle.plan.specs.declared.Checked.the-variants.{Accepted, Refused}
 use Rattle.plan.specs.Days.{daysOf, dayEnds, durationEnds}
 use Rattle.plan.specs.Powers.{powersOf, powerEnds}
-use Rattle.plan.specs.Tasks.{mostTasks, mostResources, noResource, TaskFits}
+use Rattle.plan.specs.Tasks.{mostTasks, mostResources, mostBands, noResource, TaskFits}
 use Rattle.plan.proofs.Sets.{sub-le}
-use Rattle.rules.specs.Frame.{Frame, plain, resourceCount, resourceAt}
-use Rattle.rules.specs.Calls.{orElse, refuseIf, rangesFit, setFits, tasksFit, check, repeats, limits}
+use Rattle.rules.specs.Frame.{Frame, framed, resourceCount, resourceAt, limitOn}
+use Rattle.rules.specs.Calls.{orElse, refuseIf, rangesFit, setFits, tasksFit, check, repeats, limits, bandFits, bandsFit}
+use Rattle.rules.specs.Rises.{Banded}
+use Rattle.rules.proofs.Bands.{check-few, check-all, check-banded, limit-ends}
 use Rattle.rules.proofs.Fits.{task-fits-is, fits-wide, bounded-in, set-fits-in}
 use Rattle.rules.proofs.Live.{Live, Lives, live-fits}
 use Rattle.rules.proofs.Subs.{SubTask, Subs, subs-length}
@@ -79,6 +83,9 @@ pub record Accepts (f : Frame) (ts : List Task) : Type 0 where
   pub some : 0 < resourceCount f
   pub most : resourceCount f ≤ mostResources
   pub limits : (r : ℕ) → r < resourceCount f → Within powerEnds (resourceAt f r .limit .0)
+  pub few-bands : length (f .bands) ≤ mostBands
+  pub placed : all (bandFits (resourceCount f)) (f .bands) ≡ true
+  pub banded : (r : ℕ) → Banded r (f .bands)
   pub tasks : Each (TaskFits (resourceCount f)) ts
 
 -- the frame's own checks, beside the tasks'
@@ -86,18 +93,21 @@ record Parts (f : Frame) (ts : List Task) : Type 0 where
   few : ltb mostTasks (length ts) ≡ false
   count : or (eqb (resourceCount f) 0) (ltb mostResources (resourceCount f)) ≡ false
   limits : limits 0 (f .resources) ≡ Accepted
+  bands : bandsFit (resourceCount f) (f .bands) ≡ Accepted
   tasks : tasksFit (resourceCount f) 0 ts ≡ Accepted
 
 parts : (f : Frame) (ts : List Task) → check f ts ≡ Accepted → Parts f ts
 unfolding check
 parts f ts h =
     let n = resourceCount f in
-    let last = tasksFit n 0 ts in
+    let tasks = tasksFit n 0 ts in
+    let last = orElse (bandsFit n (f .bands)) tasks in
     let rest = orElse (repeats 0 [] (f .resources)) (orElse (limits 0 (f .resources)) last) in
     let a = past (ltb mostTasks (length ts)) TooManyTasks (orElse (refuseIf (or (eqb n 0) (ltb mostResources n)) ResourceCount) rest) h in
     let b = past (or (eqb n 0) (ltb mostResources n)) ResourceCount rest (a .1) in
     let c = past-all (limits 0 (f .resources)) last (past-all (repeats 0 [] (f .resources)) (orElse (limits 0 (f .resources)) last) (b .1) .1) in
-    record { few = a .0; count = b .0; limits = c .0; tasks = c .1 }
+    let d = past-all (bandsFit n (f .bands)) tasks (c .1) in
+    record { few = a .0; count = b .0; limits = c .0; bands = d .0; tasks = d .1 }
 
 module _ (f : Frame) (ts : List Task) (h : check f ts ≡ Accepted) where
   pub accepts : Accepts f ts
@@ -110,8 +120,16 @@ module _ (f : Frame) (ts : List Task) (h : check f ts ≡ Accepted) where
         some = omega (arith, eqb-false n 0 (e .0));
         most = ltb-false mostResources n (e .1);
         limits = λ r l. limits-is 0 r (f .resources) (p .limits) l;
+        few-bands = check-few n (f .bands) (p .bands);
+        placed = check-all n (f .bands) (p .bands);
+        banded = check-banded n (f .bands) (p .bands);
         tasks = tasks-fit-is n 0 ts (p .tasks);
       }
+
+  -- the limit of every day lies within its ends
+  pub check-limits : (r : ℕ) → r < resourceCount f → (i : ℤ) → Within powerEnds (limitOn f r i)
+  unfolding limitOn
+  check-limits r l i = limit-ends r (resourceAt f r .limit .0) (f .bands) (accepts .banded r .ends) (accepts .limits r l) i
 
   pub check-live : Lives ts
   check-live = each-so (live-fits (resourceCount f)) (accepts .tasks)
@@ -157,6 +175,6 @@ check-kept f ts h us s l =
     check-same f us ts (subs-length s) (tasks-fit-in n 0 (tasks-kept n s l a) ∙ sym (tasks-fit-in n 0 a)) ∙ h
 
 -- the entry checks know no sense
-pub check-sense : (a b : Sense) (qs : List Resource) (ts : List Task) → check (plain a qs) ts ≡ check (plain b qs) ts
+pub check-sense : (a b : Sense) (qs : List Resource) (bs : List Band) (ts : List Task) → check (framed a qs bs) ts ≡ check (framed b qs bs) ts
 unfolding check
-check-sense a b qs ts = refl
+check-sense a b qs bs ts = refl

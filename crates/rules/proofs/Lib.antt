@@ -7,6 +7,7 @@ pub mod Fits
 pub mod Live
 pub mod TaskDay
 pub mod Untouched
+pub mod Bands
 pub mod Negation
 pub mod Inside
 pub mod Limits

@@ -16,6 +16,7 @@ use Rattle.integers.proofs.Hull.{within-is, within-in, fits-is, fits-in}
 use Rattle.plan.specs.declared.PowerSpan.{PowerSpan}
 use Rattle.plan.specs.declared.Task.{Task}
 use Rattle.plan.specs.declared.Resource.{Resource}
+use Rattle.plan.specs.declared.Band.{Band}
 use Rattle.plan.specs.declared.Call.{Call}
 use Rattle.plan.specs.declared.Call.the-variants.{Check, Balance, Step, Pass, Settle}
 use Rattle.plan.specs.declared.Checked.{Checked}
@@ -27,14 +28,15 @@ use Rattle.plan.specs.declared.Sense.the-variants.{AtMost, AtLeast}
 use Rattle.plan.specs.Days.{emptySpan}
 use Rattle.plan.specs.Powers.{power, powerEnds, powersOf, negatedPowers}
 use Rattle.plan.specs.Tasks.{noResource}
-use Rattle.rules.specs.Frame.{Frame, resourceCount, placesFrom, places, limitOn}
+use Rattle.rules.specs.Frame.{Frame, resourceCount, resourceAt, placesFrom, places, limitFrom, limitOn}
 use Rattle.rules.specs.Balance.{Outcome, andThen, each, cuts, unlessEmpty, balanced, balance}
 use Rattle.rules.specs.Balance.Outcome.{NoPlan, Plan}
 use Rattle.rules.specs.Step.{negated, negatedPlan, atLeastStep, senseStep, resourceStep}
 use Rattle.rules.specs.Settle.{then, steps, pass, sameRanges, sameTask, sameTasks, Settled, onePassMore, unlessSame, settleWithin, settle, room, rooms}
 use Rattle.rules.specs.Settle.Settled.{Refused, After, Unsettled}
-use Rattle.rules.specs.Calls.{orElse, refuseIf, repeats, limits, rangesFit, setFits, tasksFit, check, Result, unlessRefused, stepped, settled, placedIn, answered, callOf}
-use Rattle.rules.specs.Negation.{opposite, negatedResource, negatedFrame, negatedSettled, negatedResult}
+use Rattle.rules.specs.Calls.{orElse, refuseIf, repeats, limits, rangesFit, setFits, tasksFit, earlier, bandEnds, bandFits, bandsAfter, bandsFit, check, Result, unlessRefused, stepped, settled, placedIn, answered, callOf}
+use Rattle.rules.specs.Negation.{opposite, negatedResource, negatedBand, negatedFrame, negatedSettled, negatedResult}
+use Rattle.rules.proofs.Bands.{limit-bands-negated}
 
 abbrev pub negatedTask : Narrowed → Narrowed
 negatedTask (Kept t) = Kept (negated t)
@@ -60,6 +62,12 @@ unfolding negatedResource
 resources-back [] = refl
 resources-back (q ∷ qs) =
     ap₂ (λ (x : ℤ) (xs : List Resource). record { id = q .id; limit = power x } ∷ xs) (negneg (q .limit .0)) (resources-back qs)
+
+pub bands-back : (bs : List Band) → map negatedBand (map negatedBand bs) ≡ bs
+unfolding negatedBand
+bands-back [] = refl
+bands-back (b ∷ bs) =
+    ap₂ (λ (x : ℤ) (xs : List Band). record { place = b .place; from = b .from; limit = power x } ∷ xs) (negneg (b .limit .0)) (bands-back bs)
 
 pub plan-back : (o : Outcome) → negatedPlan (negatedPlan o) ≡ o
 plan-back NoPlan = refl
@@ -109,10 +117,16 @@ limit-negated [] r = refl
 limit-negated (q ∷ qs) zero = refl
 limit-negated (q ∷ qs) (suc r) = limit-negated qs r
 
+limit-on-negated : (f : Frame) (r : ℕ) (i : ℤ) → limitOn (negatedFrame f) r i ≡ negℤ (limitOn f r i)
+unfolding limitOn
+limit-on-negated f r i =
+    ap (λ (x : ℤ). limitFrom r x (map negatedBand (f .bands)) i) (limit-negated (f .resources) r)
+    ∙ limit-bands-negated r (resourceAt f r .limit .0) (f .bands) i
+
 pub step-negated : (f : Frame) (r : ℕ) (ts : List Task) → resourceStep (negatedFrame f) r (map negated ts) ≡ negatedPlan (resourceStep f r ts)
-unfolding resourceStep limitOn
+unfolding resourceStep
 step-negated f r ts =
-    ap (λ (limit : ℤ → ℤ). senseStep (opposite (f .sense)) r limit (map negated ts)) (λ k i. limit-negated (f .resources) r k)
+    ap (λ (limit : ℤ → ℤ). senseStep (opposite (f .sense)) r limit (map negated ts)) (λ k i. limit-on-negated f r i k)
     ∙ sense-step-negated (f .sense) r (limitOn f r) ts
 
 -- ---- a pass
@@ -246,6 +260,24 @@ unfolding limits negatedResource
 limits-negated k [] = refl
 limits-negated k (q ∷ qs) = rw (power-fits-negated (q .limit .0), limits-negated (suc k) qs)
 
+band-fits-negated : (n : ℕ) (b : Band) → bandFits n (negatedBand b) ≡ bandFits n b
+unfolding bandFits bandEnds negatedBand
+band-fits-negated n b = rw (power-fits-negated (b .limit .0))
+
+earlier-negated : (a b : Band) → earlier (negatedBand a) (negatedBand b) ≡ earlier a b
+unfolding negatedBand
+earlier-negated a b = refl
+
+bands-after-negated : (n k : ℕ) (a : Band) (bs : List Band) → bandsAfter n k (negatedBand a) (map negatedBand bs) ≡ bandsAfter n k a bs
+unfolding bandsAfter
+bands-after-negated n k a [] = refl
+bands-after-negated n k a (b ∷ bs) = rw (earlier-negated a b, band-fits-negated n b, bands-after-negated n (suc k) b bs)
+
+bands-fit-negated : (n : ℕ) (bs : List Band) → bandsFit n (map negatedBand bs) ≡ bandsFit n bs
+unfolding bandsFit
+bands-fit-negated n [] = refl
+bands-fit-negated n (b ∷ bs) = rw (band-fits-negated n b, bands-after-negated n 1 b bs)
+
 -- the same refusal, or none
 pub check-negated : (f : Frame) (ts : List Task) → check (negatedFrame f) (map negated ts) ≡ check f ts
 unfolding check
@@ -255,6 +287,7 @@ check-negated f ts =
       length-map ts negated,
       repeats-negated 0 [] (f .resources),
       limits-negated 0 (f .resources),
+      bands-fit-negated (resourceCount f) (f .bands),
       tasks-fit-negated (resourceCount f) 0 ts,
     )
 

@@ -18,10 +18,10 @@ use Rattle.plan.specs.declared.Task.{Task}
 use Rattle.plan.specs.declared.Checked.the-variants.{Accepted}
 use Rattle.plan.specs.Powers.{powerHigh}
 use Rattle.plan.specs.Tasks.{mostTasks, Bounded}
-use Rattle.rules.specs.Frame.{Frame, resourceCount, resourceAt, limitOn}
+use Rattle.rules.specs.Frame.{Frame, resourceCount, limitOn}
 use Rattle.rules.specs.Step.{possible, sure, hope, total, others}
 use Rattle.rules.specs.Calls.{check}
-use Rattle.rules.proofs.Checks.{accepts}
+use Rattle.rules.proofs.Checks.{accepts, check-limits}
 
 -- the size of a height or a limit
 abbrev pub mostPower : ℕ
@@ -87,8 +87,7 @@ module _ (f : Frame) (ts : List Task) (ok : check f ts ≡ Accepted) (r : ℕ) (
       omega arith
 
   pub lift-near : r < resourceCount f → (t : Task) → In t ts → Near mostSum (limitOn f r i -ℤ others r ts t i)
-  unfolding limitOn
   lift-near l t k =
-      let b = accepts f ts ok .limits r l in
+      let b = check-limits f ts ok r l i in
       let c = others-near t k in
-      omega (z, -z (resourceAt f r .limit .0) (others r ts t i))
+      omega (z, -z (limitOn f r i) (others r ts t i))

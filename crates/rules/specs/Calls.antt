@@ -1,4 +1,4 @@
--- "Numbered refusals" for lists, in their order: 1, 2, 3 over all resources, 4 over all, then task by task 5 before 6, then 12, then 7;
+-- "Numbered refusals" for lists, in their order: 1, 2, 3 over all resources, 4 over all, 13 over all bands, then task by task 5 before 6, then 12, then 7;
 -- and what each call answers and leaves, on any lists.
 use Prim.Native.Nat.{ℕ, suc, _^_}
 use mathlib.Core.List.{List, [], _∷_}
@@ -6,21 +6,23 @@ use mathlib.Core.Bool.{Bool, true, false, not}
 use lib.IntN.{ℤ}
 use lib.Dec.{eqb, ltb}
 use lib.ListN.{length}
+use lib.Signed.{ltZ}
 use Rattle.integers.specs.Whole.{eqZ}
 use Rattle.integers.specs.Tests.{and, or, any}
 use Rattle.integers.specs.Hull.{within, fits}
 use Rattle.plan.specs.declared.Task.{Task}
 use Rattle.plan.specs.declared.Resource.{Resource}
+use Rattle.plan.specs.declared.Band.{Band}
 use Rattle.plan.specs.declared.Checked.{Checked}
 use Rattle.plan.specs.declared.Refusal.{Refusal}
-use Rattle.plan.specs.declared.Refusal.the-variants.{TooManyTasks, ResourceCount, RepeatedIdentifier, LimitOutside, RangeOutside, SetOutside, NoPlan, NoSuchResource}
+use Rattle.plan.specs.declared.Refusal.the-variants.{TooManyTasks, ResourceCount, RepeatedIdentifier, LimitOutside, RangeOutside, SetOutside, NoPlan, NoSuchResource, BandOutside}
 use Rattle.plan.specs.declared.Call.{Call}
 use Rattle.plan.specs.declared.Call.the-variants.{Check, Balance, Step, Pass, Settle}
 use Rattle.plan.specs.declared.Answer.{Answer}
 use Rattle.plan.specs.declared.Answer.the-variants.{Done, Refused}
 use Rattle.plan.specs.Days.{daysOf, dayEnds, durationEnds}
 use Rattle.plan.specs.Powers.{powersOf, powerEnds}
-use Rattle.plan.specs.Tasks.{mostTasks, mostResources}
+use Rattle.plan.specs.Tasks.{mostTasks, mostResources, mostBands}
 use Rattle.rules.specs.Frame.{Frame, resourceCount}
 use Rattle.rules.specs.Balance.{Outcome, balance}
 use Rattle.rules.specs.Step.{resourceStep}
@@ -45,6 +47,33 @@ unfoldable pub limits : ℕ → List Resource → Checked
 limits k [] = Checked.Accepted
 limits k (q ∷ qs) = orElse (refuseIf (not (within powerEnds (q .limit .0))) (LimitOutside k)) (limits (suc k) qs)
 
+-- 13: "a band out of order, beyond its ends, naming no resource, or a 65th, place the first such band, after 4 and before 5"
+-- "strictly rising by place and then by day"
+abbrev pub earlier : Band → Band → Bool
+earlier a b = or (ltb (a .place) (b .place)) (and (eqb (a .place) (b .place)) (ltZ (a .from .0) (b .from .0)))
+
+-- first day and limit within their ends
+unfoldable pub bandEnds : Band → Bool
+bandEnds b = and (within dayEnds (b .from .0)) (within powerEnds (b .limit .0))
+
+-- and one of so many resources named
+unfoldable pub bandFits : ℕ → Band → Bool
+bandFits n b = and (ltb (b .place) n) (bandEnds b)
+
+-- band k is refused unless a test holds; then those after it
+abbrev pub bandUnless : Bool → ℕ → Checked → Checked
+bandUnless t k c = orElse (refuseIf (not t) (BandOutside k)) c
+
+-- band k and those after it, a being the one before
+unfoldable pub bandsAfter : ℕ → ℕ → Band → List Band → Checked
+bandsAfter n k a [] = Checked.Accepted
+bandsAfter n k a (b ∷ bs) =
+    bandUnless (and (ltb k mostBands) (and (earlier a b) (bandFits n b))) k (bandsAfter n (suc k) b bs)
+
+unfoldable pub bandsFit : ℕ → List Band → Checked
+bandsFit n [] = Checked.Accepted
+bandsFit n (b ∷ bs) = bandUnless (bandFits n b) 0 (bandsAfter n 1 b bs)
+
 -- 5: "a task's range is outside its ends, or low above high"
 unfoldable pub rangesFit : Task → Bool
 rangesFit t =
@@ -62,13 +91,13 @@ tasksFit n k (t ∷ ts) =
     orElse (refuseIf (not (rangesFit t)) (RangeOutside k))
     (orElse (refuseIf (not (setFits n t)) (SetOutside k)) (tasksFit n (suc k) ts))
 
--- 1 to 6
+-- 1 to 6, and 13 between 4 and 5
 unfoldable pub check : Frame → List Task → Checked
 check f ts =
     let n = resourceCount f in
     orElse (refuseIf (ltb mostTasks (length ts)) TooManyTasks)
     (orElse (refuseIf (or (eqb n 0) (ltb mostResources n)) ResourceCount)
-    (orElse (repeats 0 [] (f .resources)) (orElse (limits 0 (f .resources)) (tasksFit n 0 ts))))
+    (orElse (repeats 0 [] (f .resources)) (orElse (limits 0 (f .resources)) (orElse (bandsFit n (f .bands)) (tasksFit n 0 ts)))))
 
 -- what a call answers, and what the lent tasks hold then: "On each refusal, task lists and buffers keep their entry contents."
 pub record Result : Type 0 where

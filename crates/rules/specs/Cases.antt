@@ -23,20 +23,20 @@ pub record Case : Type 0 where
   pub result : Result
 
 -- ---- plans in few words
-abbrev one : ℤ → Range
+abbrev pub one : ℤ → Range
 one v = range v v
 
-abbrev task : ℕ → Range → Range → Range → Range → Task
+abbrev pub task : ℕ → Range → Range → Range → Range → Task
 task s o d e h = record { set = s; origin = spanOf o; duration = spanOf d; end = spanOf e; height = powerSpanOf h }
 
 -- on the one resource; written origin / duration / end / height
-abbrev here : ℤ → ℤ → ℤ → ℤ → Task
+abbrev pub here : ℤ → ℤ → ℤ → ℤ → Task
 here o d e h = task 1 (one o) (one d) (one e) (one h)
 
 abbrev resource : ℤ → ℤ → Resource
 resource i l = record { id = i; limit = power l }
 
-abbrev limit : ℤ → List Resource
+abbrev pub limit : ℤ → List Resource
 limit l = resource (pos 7) l ∷ []
 
 abbrev settles : Sense → List Resource → List Task → ℕ → List Task → Case
@@ -102,11 +102,11 @@ pageCases =
 abbrev refuses : Sense → List Resource → List Task → Result → Case
 refuses s qs ts x = record { call = Settle; frame = plain s qs; tasks = ts; result = x }
 
-abbrev two : ℤ → ℤ → List Resource
+abbrev pub two : ℤ → ℤ → List Resource
 two a b = resource (pos 7) a ∷ resource (pos 9) b ∷ []
 
 -- a job on one resource or the other
-abbrev either : ℤ → ℤ → ℤ → ℤ → Task
+abbrev pub either : ℤ → ℤ → ℤ → ℤ → Task
 either o d e h = task 3 (one o) (one d) (one e) (one h)
 
 -- calls on case 9 other than settling

@@ -1,20 +1,28 @@
--- What no step changes, a plan's frame: its sense and its resources, each known by its place in the list. "Places count from 0."
+-- What no step changes, a plan's frame: its sense, its resources, each known by its place in the list, and their bands. "Places count from 0."
 use Prim.Native.Nat.{ℕ, zero, suc}
 use mathlib.Core.List.{List, [], _∷_}
 use mathlib.Core.Bool.{Bool}
-use lib.Dec.{ltb}
+use lib.Dec.{eqb, ltb}
 use lib.IntN.{ℤ}
 use lib.ListN.{length, getD}
+use lib.Signed.{leZ}
+use Rattle.integers.specs.Tests.{if, and}
 use Rattle.plan.specs.declared.Resource.{Resource}
+use Rattle.plan.specs.declared.Band.{Band}
 use Rattle.plan.specs.declared.Sense.{Sense}
 use Rattle.plan.specs.Tasks.{noResource}
 
 pub record Frame : Type 0 where
   pub sense : Sense
   pub resources : List Resource
+  pub bands : List Band
 
+abbrev pub framed : Sense → List Resource → List Band → Frame
+framed sense qs bs = record { sense = sense; resources = qs; bands = bs }
+
+-- without bands
 abbrev pub plain : Sense → List Resource → Frame
-plain sense qs = record { sense = sense; resources = qs }
+plain sense qs = framed sense qs []
 
 abbrev pub resourceCount : Frame → ℕ
 resourceCount f = length (f .resources)
@@ -34,6 +42,16 @@ placesFrom k (suc n) = k ∷ placesFrom (suc k) n
 unfoldable pub places : Frame → List ℕ
 places f = placesFrom 0 (resourceCount f)
 
--- the limit of the resource at a place, on a day
+-- ---- "Levels that change by date."
+-- the band is one of this place, and its first day is not after day i
+abbrev pub stands : ℕ → ℤ → Band → Bool
+stands r i b = and (eqb (b .place) r) (leZ (b .from .0) i)
+
+-- the limit of the last band that stands on day i; x where none does
+unfoldable pub limitFrom : ℕ → ℤ → List Band → ℤ → ℤ
+limitFrom r x [] i = x
+limitFrom r x (b ∷ bs) i = limitFrom r (if (stands r i b) (b .limit .0) x) bs i
+
+-- the limit of the resource at a place, on a day: "Before a resource's first band its RS limit stands."
 unfoldable pub limitOn : Frame → ℕ → ℤ → ℤ
-limitOn f r i = resourceAt f r .limit .0
+limitOn f r i = limitFrom r (resourceAt f r .limit .0) (f .bands) i

@@ -1,6 +1,8 @@
--- The same plan, negated: "every height and limit negated and each height's two ends swapped". At most becomes at least, and back.
+-- The same plan, negated: "every height and limit negated and each height's two ends swapped", the limits of bands too. At most becomes at least,
+-- and back.
 use mathlib.Core.List.{map}
 use Rattle.plan.specs.declared.Resource.{Resource}
+use Rattle.plan.specs.declared.Band.{Band}
 use Rattle.plan.specs.declared.Sense.{Sense}
 use Rattle.plan.specs.declared.Sense.the-variants.{AtMost, AtLeast}
 use Rattle.plan.specs.Powers.{negatedPower}
@@ -16,8 +18,11 @@ opposite AtLeast = AtMost
 unfoldable pub negatedResource : Resource → Resource
 negatedResource q = record { id = q .id; limit = negatedPower (q .limit) }
 
+unfoldable pub negatedBand : Band → Band
+negatedBand b = record { place = b .place; from = b .from; limit = negatedPower (b .limit) }
+
 abbrev pub negatedFrame : Frame → Frame
-negatedFrame f = record { sense = opposite (f .sense); resources = map negatedResource (f .resources) }
+negatedFrame f = record { sense = opposite (f .sense); resources = map negatedResource (f .resources); bands = map negatedBand (f .bands) }
 
 -- what settling or a call leaves, negated
 abbrev pub negatedSettled : Settled → Settled

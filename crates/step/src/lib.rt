@@ -7,8 +7,9 @@ ghost use lib.ListN.{length};
 ghost use Rattle.integers.specs.Lists.{Each};
 ghost use Rattle.plan.specs.Sets.{setBits};
 ghost use Rattle.plan.specs.Tasks.{Bounded, TaskFits};
+ghost use Rattle.rules.specs.Frame.{limitFrom};
 ghost use Rattle.rules.specs.Step.{atLeastStep};
-ghost use Rattle.rows.specs.View.{tasksOf};
+ghost use Rattle.rows.specs.View.{tasksOf, bandsOf};
 ghost use Rattle.rows.specs.Changes.{outcomeOf, Notes};
 ghost use Rattle.stretches.specs.View.{stretchesOf};
 ghost use Rattle.profile.specs.Lent.{Lent, Asks};
@@ -17,6 +18,7 @@ ghost use Rattle.step.specs.Least.{lowered, Under, canBeBarred, asksMore
 use plan::Narrowed;
 use plan::Power;
 use plan::Task;
+use rows::BandRow;
 use rows::Stepped;
 use rows::TaskRow;
 use stretches::Stretch;
@@ -112,19 +114,20 @@ fn narrow_all(s: &mut [TaskRow], r: u64, ss: &[StretchRow]) -> Stepped
 // A shortfall is no plan; where no stretch was worth keeping, no rule touches a task.
 pub fn step(
     s: &mut [TaskRow],
+    b: &[BandRow],
     r: u64,
     limit: Power,
     keys: &mut [u64],
     spare: &mut [u64],
     ss: &mut [StretchRow],
 ) -> Stepped
-    requires { ⌜ Asks r limit (length (now s)) ⌝ }
-    requires { ⌜ Lent (length (now s)) (length (now keys)) (length (now spare)) (length (now ss)) ⌝ }
+    requires { ⌜ Asks r limit (bandsOf (now b)) (length (now s)) ⌝ }
+    requires { ⌜ Lent (length (now s)) (length (now b)) (length (now keys)) (length (now spare)) (length (now ss)) ⌝ }
     requires { ⌜ Each (TaskFits setBits) (tasksOf (now s)) ⌝ }
-    ensures outcome { λ o. ⌜ outcomeOf o (tasksOf (now (s .exit))) ≡ atLeastStep r (λ i. limit .0) (tasksOf (now (s .entry))) ⌝ }
+    ensures outcome { λ o. ⌜ outcomeOf o (tasksOf (now (s .exit))) ≡ atLeastStep r (limitFrom r (limit .0) (bandsOf (now (b .entry)))) (tasksOf (now (s .entry))) ⌝ }
     ensures noted { λ o. ⌜ Notes o (tasksOf (now (s .entry))) (tasksOf (now (s .exit))) ⌝ }
 {
-    let p = profile::profile(s, r, limit, keys, spare, ss);
+    let p = profile::profile(s, b, r, limit, keys, spare, ss);
     if p.short {
         return Stepped {
             ok: false,

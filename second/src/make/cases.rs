@@ -1,11 +1,15 @@
-//! Cases 1 to 9 of document 01, "Days tried on both sides", both halves of each.
+//! Cases 1 to 9 of document 01, "Days tried on both sides", both halves of each, and cases of bands.
 
 use super::parts::*;
 use crate::plan::*;
 use crate::random::Random;
 
-/// One case after another, some with a limit one off.
+/// One case after another, some with a limit one off; now and then a case of bands.
 pub fn documented_case(random: &mut Random, turn: u64) -> Plan {
+    let aside = &mut random.aside();
+    if aside.one_in(3) {
+        return band_case(aside, turn);
+    }
     let mut cases = cases();
     let (limits, tasks) = cases.swap_remove((turn % cases.len() as u64) as usize);
     let mut plan = at_least(random, &limits, tasks);
@@ -16,16 +20,90 @@ pub fn documented_case(random: &mut Random, turn: u64) -> Plan {
     plan
 }
 
-/// Limits and tasks of each case, sense at least.
-fn cases() -> Vec<(Vec<i64>, Vec<Task>)> {
-    // "task written origin / duration / end / height"
-    let written = |origin, duration, end, height| Task {
+/// One case of bands after another, some with a band's day or limit one off.
+fn band_case(random: &mut Random, turn: u64) -> Plan {
+    let mut cases = band_cases();
+    let mut case = cases.swap_remove((turn % cases.len() as u64) as usize);
+    let place = random.place(case.bands.len());
+    match random.within(0, 5) {
+        0 => case.bands[place].limit += random.within(-1, 1),
+        // Later than all others, or earlier: they stay in order.
+        1 => case.bands.last_mut().expect("there are bands").from += 1,
+        2 => case.bands[0].from -= 1,
+        _ => (),
+    }
+    Plan {
+        bands: case.bands,
+        ..at_least(random, &case.limits, case.tasks)
+    }
+}
+
+/// "task written origin / duration / end / height"
+fn written(origin: i64, duration: i64, end: i64, height: i64) -> Task {
+    Task {
         end: Range::single(end),
         ..single_task(0, origin, duration, height)
-    };
-    let wide = |resources, origin, duration, height| {
-        balanced_task(Set::all(resources), origin, Range::single(duration), height)
-    };
+    }
+}
+
+/// A task on any of so many resources, of one duration.
+fn wide(resources: usize, origin: Range, duration: i64, height: Range) -> Task {
+    balanced_task(Set::all(resources), origin, Range::single(duration), height)
+}
+
+/// A case of bands, sense at least.
+struct BandCase {
+    limits: Vec<i64>,
+    bands: Vec<Band>,
+    tasks: Vec<Task>,
+}
+
+/// The case of these limits, bands written as place, first day and limit, and tasks.
+fn with_bands(limits: &[i64], bands: &[(usize, i64, i64)], tasks: &[Task]) -> BandCase {
+    let band = |(place, from, limit): (usize, i64, i64)| Band { place, from, limit };
+    BandCase {
+        limits: limits.to_vec(),
+        bands: bands.iter().copied().map(band).collect(),
+        tasks: tasks.to_vec(),
+    }
+}
+
+/// The cases that the tests of this program have worked out by hand.
+fn band_cases() -> Vec<BandCase> {
+    let (to, one) = (Range::new, Range::single);
+    let lone = written(1, 2, 3, 0);
+    let moving = wide(1, to(0, 4), 1, one(2));
+    let negative = wide(1, to(-8, -3), 2, one(1));
+    let taking = [written(1, 4, 5, -2), wide(1, to(0, 6), 1, one(-1))];
+    let needing = [written(3, 3, 6, 0), wide(1, to(0, 6), 1, one(2))];
+    vec![
+        // on the first listed day; beyond the last
+        with_bands(&[5], &[(0, 1, 0)], &[lone]),
+        with_bands(&[0], &[(0, 3, 9)], &[lone]),
+        // two on neighbouring days, with a barred middle and without
+        with_bands(&[0], &[(0, 2, 3), (0, 3, 1)], &[moving]),
+        with_bands(&[0], &[(0, 0, 3), (0, 1, 1)], &[moving]),
+        // between two sure days of a task
+        with_bands(&[1], &[(0, 6, 3)], &[wide(1, one(5), 2, to(1, 4))]),
+        // negative days
+        with_bands(&[0], &[(0, -7, 2), (0, -4, 0)], &[negative]),
+        // of two resources
+        with_bands(
+            &[0, 0],
+            &[(0, 2, 5), (1, 4, 5)],
+            &[wide(2, one(2), 2, one(1))],
+        ),
+        // "at most", said in the other sense
+        with_bands(&[-4], &[(0, 3, -2), (0, 5, 0)], &taking),
+        // a need that only a band causes
+        with_bands(&[0], &[(0, 4, 2), (0, 5, 0)], &needing),
+        // a day that is bare while the band lasts
+        with_bands(&[0], &[(0, 3, 9), (0, 5, 0)], &[lone, written(5, 1, 6, 0)]),
+    ]
+}
+
+/// Limits and tasks of each case, sense at least.
+fn cases() -> Vec<(Vec<i64>, Vec<Task>)> {
     let to = Range::new;
     vec![
         (vec![3], vec![]),

@@ -1,5 +1,7 @@
 //! Damaged plan files: every refusal a file can give, cut, bent and random ones.
 
+use super::band_damage;
+use super::bands::{self, banded};
 use super::parts::*;
 use super::plans::balanced;
 use crate::file::{self, unchecked_bytes, Head, Record, PL, RS, TK};
@@ -10,9 +12,16 @@ use crate::random::Random;
 /// How many kinds of damage take turns.
 const KINDS: u64 = 60;
 
-/// A damaged file; the kinds take turns.
+/// A damaged file; the kinds take turns, now and then on a plan with bands, or
+/// with one of the kinds that damage bands in its place.
 pub fn damaged(random: &mut Random, turn: u64) -> Vec<u8> {
-    let plan = sound_plan(random);
+    let mut plan = sound_plan(random);
+    let aside = &mut random.aside();
+    match aside.within(0, 5) {
+        0 | 1 => return band_damage::damaged(aside, plan),
+        2 => plan = banded(aside, plan),
+        _ => (),
+    }
     match turn % KINDS {
         kind @ 0..=11 => cut(random, &plan, kind),
         kind @ 12..=23 => bent_mark(random, &plan, kind - 12),
@@ -37,11 +46,14 @@ fn sound_plan(random: &mut Random) -> Plan {
 
 /// A record of the plan's file and where it starts: PL, an RS, a TK.
 fn some_record(random: &mut Random, plan: &Plan, kind: u64) -> (Record, usize) {
-    let resources = plan.resources.len();
+    let (resources, bands) = (plan.resources.len(), plan.bands.len());
     match kind {
         0 => (PL, 0),
-        1 => (RS, file::length(random.place(resources), 0)),
-        _ => (TK, file::length(resources, random.place(plan.tasks.len()))),
+        1 => (RS, file::length(random.place(resources), 0, 0)),
+        _ => {
+            let tasks = random.place(plan.tasks.len());
+            (TK, file::length(resources, bands, tasks))
+        }
     }
 }
 
@@ -144,10 +156,15 @@ fn left_over(random: &mut Random, mut plan: Plan, kind: u64) -> Vec<u8> {
     bytes
 }
 
-/// As many resources and tasks as there may be.
+/// As many resources and tasks as there may be, and for every second one as many bands.
 fn longest(random: &mut Random) -> Plan {
     let tasks = vec![single_task(0, 1, 1, 1); MOST_TASKS];
-    at_least(random, &[0; MOST_RESOURCES], tasks)
+    let aside = &mut random.aside();
+    let count = aside.pick(&[0, MOST_BANDS]);
+    Plan {
+        bands: bands::rising(aside, MOST_RESOURCES, count),
+        ..at_least(random, &[0; MOST_RESOURCES], tasks)
+    }
 }
 
 // ---- Damaged lists ----
@@ -188,6 +205,7 @@ fn bent_task(random: &mut Random, mut plan: Plan, kind: u64, round: u64) -> Plan
     let beyond = Set::only(plan.resources.len().min(LAST_PLACE));
     if plan.resources.len() > LAST_PLACE {
         plan.resources.truncate(LAST_PLACE);
+        plan.bands.retain(|band| band.place < LAST_PLACE);
         plan.tasks
             .iter_mut()
             .for_each(|task| task.set = Set::only(0));

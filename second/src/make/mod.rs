@@ -1,5 +1,7 @@
 //! Streams of plan files, valid and damaged, the same for the same seed.
 
+mod band_damage;
+mod bands;
 mod cases;
 mod damage;
 mod ends;
@@ -19,6 +21,9 @@ const DAMAGED: u64 = 4;
 /// How many files a turn has; file number n is of kind n % KINDS.
 pub const KINDS: u64 = VALID_KINDS + DAMAGED;
 
+/// Of the valid plans made without bands so many in a hundred are given some.
+const BANDED_PERCENT: i64 = 45;
+
 const AT_ENDS: u64 = 15;
 const LARGE: u64 = 16;
 /// The kinds that take long day by day: the ends of every range, many tasks.
@@ -26,6 +31,9 @@ pub const LONG_KINDS: [u64; 2] = [AT_ENDS, LARGE];
 
 /// File number n of the stream with this seed. The kinds take turns, and within
 /// a kind the turns go on (`turn`), so that each comes up in any long stream.
+///
+/// What concerns bands is drawn from a source aside, so that a plan that gets none
+/// is the one that this number had before there were bands.
 pub fn plan_file(seed: u64, n: u64) -> Vec<u8> {
     let random = &mut Random::new(seed, n);
     let (turn, kind) = (n / KINDS, n % KINDS);
@@ -33,7 +41,12 @@ pub fn plan_file(seed: u64, n: u64) -> Vec<u8> {
         return damage::damaged(random, DAMAGED * turn + kind - VALID_KINDS);
     }
     let plan = valid_plan(random, kind, turn);
-    unchecked_bytes(&parts::varied(random, plan))
+    let plan = parts::varied(random, plan);
+    let aside = &mut random.aside();
+    if plan.bands.is_empty() && aside.within(0, 99) < BANDED_PERCENT {
+        return unchecked_bytes(&bands::banded(aside, plan));
+    }
+    unchecked_bytes(&plan)
 }
 
 fn valid_plan(random: &mut Random, kind: u64, turn: u64) -> Plan {

@@ -74,6 +74,7 @@ pub fn at_least(random: &mut Random, limits: &[i64], tasks: Vec<Task>) -> Plan {
     Plan {
         sense: Sense::AtLeast,
         resources: resources(random, limits),
+        bands: Vec::new(),
         tasks,
     }
 }
@@ -95,18 +96,28 @@ pub fn varied(random: &mut Random, mut plan: Plan) -> Plan {
     plan
 }
 
-/// Every origin and end moved by so many days; the plan itself if one would leave its ends.
+/// Every origin, end and band moved by so many days; the plan itself if one would leave its ends.
 pub fn moved(plan: Plan, by: i64) -> Plan {
-    let by = Range::single(by);
+    let days = Range::single(by);
     let move_task = |task: &Task| Task {
-        origin: task.origin.plus(by),
-        end: task.end.plus(by),
+        origin: task.origin.plus(days),
+        end: task.end.plus(days),
         ..*task
     };
+    let move_band = |band: &Band| Band {
+        from: band.from + by,
+        ..*band
+    };
     let tasks: Vec<Task> = plan.tasks.iter().map(move_task).collect();
-    let stands = |task: &Task| task.origin.stands_within(DAYS) && task.end.stands_within(DAYS);
-    if tasks.iter().all(stands) {
-        Plan { tasks, ..plan }
+    let bands: Vec<Band> = plan.bands.iter().map(move_band).collect();
+    let task_stands = |task: &Task| task.origin.stands_within(DAYS) && task.end.stands_within(DAYS);
+    let band_stands = |band: &Band| Range::single(band.from).stands_within(DAYS);
+    if tasks.iter().all(task_stands) && bands.iter().all(band_stands) {
+        Plan {
+            bands,
+            tasks,
+            ..plan
+        }
     } else {
         plan
     }

@@ -24,8 +24,8 @@ struct Size {
     tasks: usize,
 }
 
-/// A plan made around a choice for each task: the limits are what that choice
-/// reaches (less some slack), plus `beyond`; the ranges are widened.
+/// A plan made around a choice for each task: the limits, those of bands too, are
+/// what that choice reaches (less some slack), plus `beyond`; the ranges are widened.
 pub fn with_allowed_plan(random: &mut Random, beyond: i64) -> Plan {
     let size = Size {
         resources: resource_count(random),
@@ -38,10 +38,21 @@ pub fn with_allowed_plan(random: &mut Random, beyond: i64) -> Plan {
 fn around_allowed_plan(random: &mut Random, size: Size, beyond: i64) -> Plan {
     let chosen: Vec<Choice> = (0..size.tasks).map(|_| choice(random, &size)).collect();
     let slack = random.pick(&[0, 0, 0, 1, 3]);
+    let reached = |random: &mut Random, place, days| match least_level(&chosen, place, days) {
+        Some(level) => level - slack + beyond,
+        None => random.within(-4, 8),
+    };
+    let aside = &mut random.aside();
+    let starts = band_starts(aside, &chosen, size.resources);
     let limits: Vec<i64> = (0..size.resources)
-        .map(|place| match least_level(&chosen, place) {
-            Some(level) => level - slack + beyond,
-            None => random.within(-4, 8),
+        .map(|place| reached(random, place, stretch(&starts, place, DAYS.low)))
+        .collect();
+    let bands = starts
+        .iter()
+        .map(|(place, from)| Band {
+            place: *place,
+            from: *from,
+            limit: reached(aside, *place, stretch(&starts, *place, *from)),
         })
         .collect();
     let most = random.within(0, 3);
@@ -49,7 +60,39 @@ fn around_allowed_plan(random: &mut Random, size: Size, beyond: i64) -> Plan {
         .iter()
         .map(|choice| widened(random, choice, size.resources, most))
         .collect();
-    at_least(random, &limits, tasks)
+    Plan {
+        bands,
+        ..at_least(random, &limits, tasks)
+    }
+}
+
+/// Place and first day of each band, in order: for one plan in three, on some of
+/// the days that the chosen tasks cover.
+fn band_starts(random: &mut Random, chosen: &[Choice], resources: usize) -> Vec<(usize, i64)> {
+    let mut starts = Vec::new();
+    if !random.one_in(3) {
+        return starts;
+    }
+    for place in 0..resources {
+        let there = chosen.iter().filter(|choice| choice.place == place);
+        let covered: Vec<i64> = there.flat_map(Choice::days).collect();
+        if !covered.is_empty() {
+            // At most four each, so that there are never more than 64.
+            let some = (0..random.within(0, 4)).map(|_| (place, random.pick(&covered)));
+            starts.extend(some);
+        }
+    }
+    starts.sort();
+    starts.dedup();
+    starts
+}
+
+/// The days from this one to before the resource's next band.
+fn stretch(starts: &[(usize, i64)], place: usize, from: i64) -> Range {
+    let next = starts
+        .iter()
+        .find(|start| start.0 == place && start.1 > from);
+    Range::new(from, next.map_or(DAYS.high, |start| start.1 - 1))
 }
 
 fn choice(random: &mut Random, size: &Size) -> Choice {
@@ -65,10 +108,12 @@ fn choice(random: &mut Random, size: &Size) -> Choice {
     }
 }
 
-/// The least level on a resource over all days covered there, if any is.
-fn least_level(chosen: &[Choice], place: usize) -> Option<i64> {
+/// The least level on a resource over all of these days that are covered there, if any is.
+fn least_level(chosen: &[Choice], place: usize, days: Range) -> Option<i64> {
     let there = chosen.iter().filter(|choice| choice.place == place);
-    let covered = there.flat_map(Choice::days);
+    let covered = there
+        .flat_map(Choice::days)
+        .filter(|day| days.values().contains(day));
     covered.map(|day| level_on(chosen, place, day)).min()
 }
 

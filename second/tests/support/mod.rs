@@ -2,7 +2,7 @@
 #![allow(dead_code)]
 
 use second::random::Random;
-use second::{Plan, Range, Resource, Sense, Set, Task};
+use second::{Band, Plan, Range, Resource, Sense, Set, Task};
 
 /// The range that document 01 writes as "0..9".
 pub fn to(low: i64, high: i64) -> Range {
@@ -31,7 +31,7 @@ pub fn wide(set: u64, origin: Range, duration: Range, end: Range, height: Range)
     }
 }
 
-/// A plan whose resources have identifiers 1, 2, 3 ...
+/// A plan without bands whose resources have identifiers 1, 2, 3 ...
 pub fn plan(sense: Sense, limits: &[i64], tasks: &[Task]) -> Plan {
     let resource = |(place, limit): (usize, &i64)| Resource {
         id: place as i32 + 1,
@@ -40,12 +40,45 @@ pub fn plan(sense: Sense, limits: &[i64], tasks: &[Task]) -> Plan {
     Plan {
         sense,
         resources: limits.iter().enumerate().map(resource).collect(),
+        bands: Vec::new(),
         tasks: tasks.to_vec(),
     }
 }
 
 pub fn at_least(limit: i64, tasks: &[Task]) -> Plan {
     plan(Sense::AtLeast, &[limit], tasks)
+}
+
+/// A band "place, first day, limit".
+pub fn band(place: usize, from: i64, limit: i64) -> Band {
+    Band { place, from, limit }
+}
+
+/// The same plan with these bands, each written as place, first day, limit.
+pub fn with_bands(plan: Plan, bands: &[(usize, i64, i64)]) -> Plan {
+    let bands = bands.iter();
+    Plan {
+        bands: bands
+            .map(|(place, from, limit)| band(*place, *from, *limit))
+            .collect(),
+        ..plan
+    }
+}
+
+/// No bands for every second plan; for the others up to three on each resource, in order, on its days.
+fn some_bands(random: &mut Random, resources: usize) -> Vec<Band> {
+    let mut bands = Vec::new();
+    if random.one_in(2) {
+        return bands;
+    }
+    for place in 0..resources {
+        let mut from = random.within(-2, 4);
+        for _ in 0..random.within(0, 3) {
+            bands.push(band(place, from, random.within(-3, 3)));
+            from += random.within(1, 3);
+        }
+    }
+    bands
 }
 
 fn sense(random: &mut Random) -> Sense {
@@ -69,7 +102,10 @@ pub fn small_plan(random: &mut Random) -> Plan {
         };
         tasks.push(wide(set.0, origin, duration, end, height));
     }
-    plan(sense(random), &limits, &tasks)
+    Plan {
+        bands: some_bands(random, count),
+        ..plan(sense(random), &limits, &tasks)
+    }
 }
 
 /// A plan with one value in each range and one resource in each set.
@@ -89,5 +125,8 @@ pub fn single_value_plan(random: &mut Random) -> Plan {
         task.set = Set::only(random.place(count));
         tasks.push(task);
     }
-    plan(sense(random), &limits, &tasks)
+    Plan {
+        bands: some_bands(random, count),
+        ..plan(sense(random), &limits, &tasks)
+    }
 }

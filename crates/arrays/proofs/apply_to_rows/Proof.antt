@@ -2,16 +2,20 @@
 use native.Mathlib.Omega.{arith}
 use mathlib.Core.Path.{_≡_, refl, sym, _∙_}
 use mathlib.Core.List.{List}
+use Prim.Native.Nat.{_≤_}
 use lib.ListN.{length}
+use lib.Seq.{take-all}
+use Rattle.plan.specs.declared.Band.{Band}
 use Rattle.plan.specs.declared.Checked.the-variants.{Accepted}
 use Rattle.plan.specs.declared.Resource.{Resource}
 use Rattle.plan.specs.declared.Task.{Task}
-use Rattle.rules.specs.Frame.{plain}
+use Rattle.plan.specs.Tasks.{mostBands}
+use Rattle.rules.specs.Frame.{framed}
 use Rattle.rules.specs.Calls.{check}
 use Rattle.rules.proofs.Calls.{call-refused, call-unplaced}
-use Rattle.rows.specs.View.{tasksOf, resourcesOf, atLeast}
-use Rattle.rows.proofs.View.{length-tasks, length-resources}
-use Rattle.arrays.proofs.Loaded.{accepted-whole}
+use Rattle.rows.specs.View.{tasksOf, resourcesOf, bandsOf, atLeast}
+use Rattle.rows.proofs.View.{length-tasks, length-resources, length-bands}
+use Rattle.arrays.proofs.Loaded.{Whole, accepted-whole}
 use borrow.Author.Needs.{needs}
 use Rattle.arrays.proofs.apply_to_rows.Statement.{statement}
 use Rattle.arrays.proofs.apply_to_rows.Tie as tie
@@ -19,24 +23,38 @@ use Rattle.arrays.proofs.apply_to_rows.Tie as tie
 -- accepted, the rows hold the whole lists
 module _ (c : tie.After-check-lists) (e : c .check-lists .result ≡ Accepted) where
   abbrev start : tie.Start
-  start = c .before .before .before
+  start = c .before .before .before .before
 
   abbrev resources : List Resource
   resources = resourcesOf (start .args .q .now)
 
+  abbrev bands : List Band
+  bands = bandsOf (start .args .b .now)
+
   abbrev tasks : List Task
   tasks = tasksOf (start .args .s .now)
 
-  whole : (length resources ≡ start .args .resources) × (length tasks ≡ start .args .tasks)
+  whole : Whole (start .args .resources) (start .args .bands) (start .args .tasks) resources bands tasks
   whole =
-      accepted-whole (start .args .resources) (start .args .tasks) resources tasks
+      accepted-whole (start .args .resources) (start .args .bands) (start .args .tasks) resources bands tasks
       (length-resources (start .args .q .now) ∙ start .pre .0)
-      (length-tasks (start .args .s .now) ∙ start .pre .1)
+      (length-bands (start .args .b .now) ∙ start .pre .1)
+      (length-tasks (start .args .s .now) ∙ start .pre .2)
       (λ f us h. sym e ∙ c .check-lists .ensures f us h)
 
-  accepted : check (atLeast (start .args .q .now)) tasks ≡ Accepted
+  accepted : check (atLeast (start .args .q .now) (start .args .b .now)) tasks ≡ Accepted
   accepted =
-      sym (c .check-lists .ensures (atLeast (start .args .q .now)) tasks record { resources-many = whole .0; tasks-many = whole .1; resources-held = λ _. refl; tasks-held = λ _. refl }) ∙ e
+      sym
+      (c .check-lists .ensures (atLeast (start .args .q .now) (start .args .b .now)) tasks
+      record {
+        resources-many = whole .resources;
+        bands-many = whole .bands;
+        tasks-many = whole .tasks;
+        resources-held = λ _. refl;
+        bands-held = sym (take-all mostBands bands (omega (arith, length-bands (start .args .b .now), start .pre .1)));
+        tasks-held = λ _. refl;
+      })
+      ∙ e
 
 check-lists-requires : tie.Need-check-lists-requires
 check-lists-requires c κs = search needs
@@ -52,10 +70,10 @@ is-placed-requires c κs = search needs
 
 apply-checked-requires : tie.Need-apply-checked-requires
 apply-checked-requires c κs =
-    let p = c .before .before .before in
+    let p = c .before .before .before .before in
     let d = p .before .before .before in
     let e = p .before .enum-told .given .1 in (
-      rw (sym (length-resources (start d e .args .q .now)), whole d e .0) (sym (p .is-placed .ensures) ∙ c .before .before .if1 .taken),
+      rw (sym (length-resources (start d e .args .q .now)), whole d e .resources) (sym (p .is-placed .ensures) ∙ c .before .before .before .if1 .taken),
       accepted d e,
     )
 
@@ -65,28 +83,19 @@ same-length c = search needs
 same-length-2 : tie.Need-same-length-2
 same-length-2 c = search needs
 
-returns : tie.Need-returns
-returns c qs ts h =
-    let d = c .before .before .before in
-    let a = d .before .before .before .args in
-    let x = c .before .f .given in
-    sym (call-refused (a .c) (plain (a .sense) qs) ts (x .0 .0) (sym (d .check-lists .ensures (plain (a .sense) qs) ts h) ∙ x .1))
-
 same-length-3 : tie.Need-same-length-3
 same-length-3 c = search needs
 
+returns : tie.Need-returns
+returns c qs bs ts h =
+    let d = c .before .before .before in
+    let a = d .before .before .before .before .args in
+    let x = c .before .f .given in
+    let f = framed (a .sense) qs bs in
+    sym (call-refused (a .c) f ts (x .0 .0) (sym (d .check-lists .ensures f ts h) ∙ x .1))
+
 same-length-4 : tie.Need-same-length-4
 same-length-4 c = search needs
-
-returns-2 : tie.Need-returns-2
-returns-2 c qs ts h =
-    let p = c .before .before .before .before .before .before in
-    let d = p .before .before .before in
-    let e = p .before .enum-told .given .1 in
-    let w = whole d e in
-    let q : resources d e ≡ qs = h .resources-held (omega (arith, w .0, h .resources-many, start d e .pre .0, length-resources (start d e .args .q .now))) in
-    let t : tasks d e ≡ ts = h .tasks-held (omega (arith, w .1, h .tasks-many, start d e .pre .1, length-tasks (start d e .args .s .now))) in
-    rw (q, t) at (c .before .before .apply-checked .ensures)
 
 same-length-5 : tie.Need-same-length-5
 same-length-5 c = search needs
@@ -94,12 +103,35 @@ same-length-5 c = search needs
 same-length-6 : tie.Need-same-length-6
 same-length-6 c = search needs
 
+returns-2 : tie.Need-returns-2
+returns-2 c qs bs ts h =
+    let k = c .before .before .before in
+    let p = k .before .before .before .before .before in
+    let d = p .before .before .before in
+    let e = p .before .enum-told .given .1 in
+    let w = whole d e in
+    let a = start d e .args in
+    let q : resources d e ≡ qs = h .resources-held (omega (arith, w .resources, h .resources-many, start d e .pre .0, length-resources (a .q .now))) in
+    let few : length bs ≤ mostBands = omega (arith, w .bands, h .bands-many, start d e .pre .1, length-bands (a .b .now)) in
+    let b : bands d e ≡ bs = h .bands-held ∙ take-all mostBands bs few in
+    let t : tasks d e ≡ ts = h .tasks-held (omega (arith, w .tasks, h .tasks-many, start d e .pre .2, length-tasks (a .s .now))) in
+    rw (q, b, t) at (k .apply-checked .ensures)
+
+same-length-7 : tie.Need-same-length-7
+same-length-7 c = search needs
+
+same-length-8 : tie.Need-same-length-8
+same-length-8 c = search needs
+
+same-length-9 : tie.Need-same-length-9
+same-length-9 c = search needs
+
 returns-3 : tie.Need-returns-3
-returns-3 c qs ts h =
+returns-3 c qs bs ts h =
     let p = c .before in
     let d = p .before .before .before in
-    let a = d .before .before .before .args in
-    let f = plain (a .sense) qs in
+    let a = d .before .before .before .before .args in
+    let f = framed (a .sense) qs bs in
     sym
     (call-unplaced (a .c) f ts (sym (d .check-lists .ensures f ts h) ∙ p .before .enum-told .given .1)
     (rw (h .resources-many) (sym (p .is-placed .ensures) ∙ c .if1 .left)))
@@ -115,10 +147,13 @@ apply-to-rows-spec =
     apply-checked-requires
     same-length
     same-length-2
-    returns
     same-length-3
+    returns
     same-length-4
-    returns-2
     same-length-5
     same-length-6
+    returns-2
+    same-length-7
+    same-length-8
+    same-length-9
     returns-3)

@@ -1,9 +1,9 @@
 -- The reader's refusal, or 0.
 use mathlib.Core.Path.{_≡_, sym, ap, _∙_}
-use Rattle.plan.specs.declared.Checked.{Checked}
-use Rattle.plan.specs.declared.Checked.the-variants.{Accepted}
+use Prim.Native.Nat.{ℕ}
 use Rattle.format.specs.declared.HeaderAnswer.{HeaderAnswer}
-use Rattle.format.specs.Reading.{readUnless, headerPlan, planAfter, readPlan}
+use Rattle.format.specs.declared.Run.{Run}
+use Rattle.format.specs.Reading.{Read, readThrough, headerPlan, planAfter, readPlan}
 use Rattle.format.proofs.Files.{header-few}
 use Rattle.calls.specs.Files.{readNumber, checkFile}
 use borrow.Author.Needs.{needs}
@@ -22,11 +22,15 @@ module _ (c : tie.After-read-header) where
 -- the rest
 module _ (c : tie.After-read-rest) where
   abbrev counted : tie.After-h
-  counted = c .before .before .before .before
+  counted = c .before .before .before .before .before
 
-  rest-as : (a : Checked) → c .read-rest .result ≡ a → readNumber (readUnless a (headerPlan (counted .h .given .0 .0) (c .read-rest .last .1 .1 .0) (c .read-rest .last .1 .1 .1 .0))) ≡ checkFile (start (counted .before .before) .args .file .now)
+  -- the plan in the rows, with so many bands
+  abbrev plan : ℕ → Read
+  plan k = headerPlan (counted .h .given .0 .0) (c .read-rest .last .1 .1 .0) (c .read-rest .last .1 .1 .1 .0) (c .read-rest .last .1 .1 .1 .1 .0) k
+
+  rest-as : (a : Run) → c .read-rest .result ≡ a → readNumber (readThrough a plan) ≡ checkFile (start (counted .before .before) .args .file .now)
   rest-as a e =
-      ap (λ (x : Checked). readNumber (readUnless x (headerPlan (counted .h .given .0 .0) (c .read-rest .last .1 .1 .0) (c .read-rest .last .1 .1 .1 .0)))) (sym e) ∙ ap readNumber (c .read-rest .ensures)
+      ap (λ (x : Run). readNumber (readThrough x plan)) (sym e) ∙ ap readNumber (c .read-rest .ensures .0)
       ∙ header-as (counted .before .before) (HeaderAnswer.Counts (counted .h .given .0 .0)) (counted .h .given .1)
 
 read-header-requires : tie.Need-read-header-requires
@@ -47,9 +51,12 @@ slice-aggregate-read-rest c = search needs
 slice-aggregate-read-rest-2 : tie.Need-slice-aggregate-read-rest-2
 slice-aggregate-read-rest-2 c = search needs
 
+slice-aggregate-read-rest-3 : tie.Need-slice-aggregate-read-rest-3
+slice-aggregate-read-rest-3 c = search needs
+
 read-rest-requires : tie.Need-read-rest-requires
 read-rest-requires c κs =
-    let m = c .before .before .before in
+    let m = c .before .before .before .before in
     let d = m .before .before in
     let few = header-few (start d .args .file .now) (sym (d .read-header .ensures) ∙ m .h .given .1) in
     (few .resources, few .tasks)
@@ -71,10 +78,12 @@ returns c =
 returns-2 : tie.Need-returns-2
 returns-2 c =
     let m = c .before .before in
-    c .refusal-number2 .ensures ∙ rest-as (m .before .before .before .before) (Checked.Refused (m .f2 .given .0 .0)) (m .f2 .given .1)
+    c .refusal-number2 .ensures ∙ rest-as (m .before .before .before .before .before) (Run.Refused (m .f2 .given .0 .0)) (m .f2 .given .1)
 
 returns-3 : tie.Need-returns-3
-returns-3 c = rest-as (c .before .before .before .before) Accepted (c .enum-told .given .1)
+returns-3 c =
+    let e = c .enum-told .given in
+    rest-as (c .before .before .before .before .before) (Run.Through (e .0 .0)) (e .1)
 
 pub check-file-spec : {M : Type 1} → statement M
 check-file-spec =
@@ -86,6 +95,7 @@ check-file-spec =
     enum-known-h
     slice-aggregate-read-rest
     slice-aggregate-read-rest-2
+    slice-aggregate-read-rest-3
     read-rest-requires
     enum-known-f-2
     refusal-number-requires-2

@@ -1,4 +1,4 @@
--- Twelve numbers times 2^32, and a place below 2^32, fit.
+-- Thirteen numbers times 2^32, and a place below 2^32, fit.
 use native.Mathlib.Omega.{arith}
 use Rattle.calls.proofs.Files.{number-small}
 use borrow.Author.Needs.{needs}

@@ -25,7 +25,7 @@ returns-3 : tie.Need-returns-3
 returns-3 c = rw (c .before .before .before .got .given .1, sym (c .before .same-mark .ensures) ∙ c .if1 .left)
 
 returns-4 : tie.Need-returns-4
-returns-4 c = let a = c .before .args in wrong-mark (a .k) (a .at) (a .got) (0 ∷ 1 ∷ 2 ∷ 4 ∷ []) tt tt (c .match .keys3)
+returns-4 c = let a = c .before .args in wrong-mark (a .k) (a .at) (a .got) (0 ∷ 1 ∷ 2 ∷ 3 ∷ 5 ∷ []) tt tt (c .match .keys3)
 
 pub not-due-spec : {M : Type 1} → statement M
 not-due-spec =

@@ -1,5 +1,8 @@
 -- One mark after another.
-use mathlib.Core.Path.{sym, _∙_}
+use mathlib.Core.Path.{_≡_, sym, _∙_}
+use mathlib.Core.Bool.{false}
+use Rattle.format.specs.declared.Mark.the-variants.{PL, RS}
+use Rattle.format.specs.Format.{marked}
 use Rattle.cursor.specs.Handed.{standing}
 use borrow.Author.Needs.{needs}
 use Rattle.cursor.proofs.standing.Statement.{statement}
@@ -22,13 +25,33 @@ returns-2 c =
     let p = m .before in
     rw (sym (p .before .is-marked .ensures) ∙ p .if1 .left, sym (m .is-marked2 .ensures) ∙ c .if2 .taken)
 
+is-marked-requires-3 : tie.Need-is-marked-requires-3
+is-marked-requires-3 c κs = search needs
+
+-- neither of the first two
+module _ (c : tie.After-is-marked3) where
+  not-plan : marked PL (c .before .before .before .before .before .before .args .b .now) ≡ false
+  not-plan = let p = c .before .before .before in sym (p .before .is-marked .ensures) ∙ p .if1 .left
+
+  not-resource : marked RS (c .before .before .before .before .before .before .args .b .now) ≡ false
+  not-resource = let q = c .before in sym (q .before .is-marked2 .ensures) ∙ q .if2 .left
+
 returns-3 : tie.Need-returns-3
 unfolding standing
-returns-3 c =
-    let m = c .before in
-    let p = m .before in
-    rw (sym (p .before .is-marked .ensures) ∙ p .if1 .left, sym (m .is-marked2 .ensures) ∙ c .if2 .left)
+returns-3 c = let m = c .before in rw (not-plan m, not-resource m, sym (m .is-marked3 .ensures) ∙ c .if3 .taken)
+
+returns-4 : tie.Need-returns-4
+unfolding standing
+returns-4 c = let m = c .before in rw (not-plan m, not-resource m, sym (m .is-marked3 .ensures) ∙ c .if3 .left)
 
 pub standing-spec : {M : Type 1} → statement M
 standing-spec =
-    tie.close (tie.spec is-marked-requires returns is-marked-requires-2 returns-2 returns-3)
+    tie.close
+    (tie.spec
+    is-marked-requires
+    returns
+    is-marked-requires-2
+    returns-2
+    is-marked-requires-3
+    returns-3
+    returns-4)

@@ -20,6 +20,9 @@ same-length c = search needs
 same-length-2 : tie.Need-same-length-2
 same-length-2 c = search needs
 
+same-length-3 : tie.Need-same-length-3
+same-length-3 c = search needs
+
 returns : tie.Need-returns
 returns c = search needs
 
@@ -35,5 +38,6 @@ read-first-spec =
     show-answer-requires
     same-length
     same-length-2
+    same-length-3
     returns
     returns-2)

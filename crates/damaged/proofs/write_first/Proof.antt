@@ -11,11 +11,14 @@ slice-aggregate-write c = simp length-take (omega arith)
 slice-aggregate-write-2 : tie.Need-slice-aggregate-write-2
 slice-aggregate-write-2 c = simp length-take (omega arith)
 
+slice-aggregate-write-3 : tie.Need-slice-aggregate-write-3
+slice-aggregate-write-3 c = simp length-take (omega arith)
+
 slice-relend-prefix-write : tie.Need-slice-relend-prefix-write
 slice-relend-prefix-write c = search needs
 
-slice-aggregate-write-3 : tie.Need-slice-aggregate-write-3
-slice-aggregate-write-3 c = simp length-take (omega arith)
+slice-aggregate-write-4 : tie.Need-slice-aggregate-write-4
+slice-aggregate-write-4 c = simp length-take (omega arith)
 
 write-requires : tie.Need-write-requires
 write-requires c κs = search needs
@@ -38,8 +41,9 @@ write-first-spec =
     (tie.spec
     slice-aggregate-write
     slice-aggregate-write-2
-    slice-relend-prefix-write
     slice-aggregate-write-3
+    slice-relend-prefix-write
+    slice-aggregate-write-4
     write-requires
     show-written-requires
     same-length

@@ -1,5 +1,4 @@
 -- Worked out at least, on the plan as it is for its sense, and back.
-use native.Mathlib.Omega.{arith}
 use mathlib.Core.Path.{_≡_, sym, ap, _∙_}
 use mathlib.Core.Bool.{true}
 use mathlib.Core.List.{List}
@@ -7,15 +6,15 @@ use lib.ListN.{length}
 use Rattle.plan.specs.declared.Answer.{Answer}
 use Rattle.plan.specs.declared.Checked.the-variants.{Accepted}
 use Rattle.plan.specs.declared.Resource.{Resource}
-use Rattle.plan.specs.declared.Sense.the-variants.{AtLeast}
+use Rattle.plan.specs.declared.Band.{Band}
 use Rattle.plan.specs.declared.Task.{Task}
-use Rattle.rules.specs.Frame.{plain}
+use Rattle.rules.specs.Frame.{Frame}
 use Rattle.rules.specs.Calls.{check, callOf, resultOf, placedIn}
 use Rattle.rules.proofs.Calls.{call-keeps}
-use Rattle.rows.specs.View.{tasksOf, resourcesOf, atLeast}
+use Rattle.rows.specs.View.{tasksOf, resourcesOf, bandsOf, frameOf, atLeast}
 use Rattle.rows.proofs.View.{length-resources}
-use Rattle.negation.specs.Senses.{tasksFor, resourcesFor, resultFor}
-use Rattle.negation.proofs.Senses.{call-for, call-back, resources-twice}
+use Rattle.negation.specs.Senses.{tasksFor, resourcesFor, bandsFor, resultFor}
+use Rattle.negation.proofs.Senses.{call-for, call-back, resources-twice, bands-twice}
 use Rattle.engine.proofs.Calls.{accepted-for}
 use borrow.Author.Needs.{needs}
 use Rattle.engine.proofs.apply.Statement.{statement}
@@ -24,56 +23,63 @@ use Rattle.engine.proofs.apply.Tie as tie
 abbrev qs : tie.Start → List Resource
 qs c = resourcesOf (c .args .q .now)
 
+abbrev bs : tie.Start → List Band
+bs c = bandsOf (c .args .b .now)
+
+abbrev f : tie.Start → Frame
+f c = frameOf (c .args .sense) (c .args .q .now) (c .args .b .now)
+
 abbrev ts : tie.Start → List Task
 ts c = tasksOf (c .args .s .now)
 
 negate-for-requires : tie.Need-negate-for-requires
-negate-for-requires c κs = c .before .before .before .before .pre .1 .accepted
+negate-for-requires c κs = c .before .before .before .before .before .pre .1 .accepted
 
 -- the rows as the steps work on them
 module _ (c : tie.After-negate-for) where
   abbrev start : tie.Start
-  start = c .before .before .before .before .before
+  start = c .before .before .before .before .before .before
 
   -- they pass the checks as they did
-  for-accepted : check (plain AtLeast (resourcesOf (c .negate-for .last .1 .0))) (tasksOf (c .negate-for .last .1 .1 .0)) ≡ Accepted
+  for-accepted : check (atLeast (c .negate-for .last .1 .0) (c .negate-for .last .1 .1 .0)) (tasksOf (c .negate-for .last .1 .1 .1 .0)) ≡ Accepted
   for-accepted =
-      rw (c .negate-for .ensures .0, c .negate-for .ensures .1) (accepted-for (plain (start .args .sense) (qs start)) (ts start) (start .pre .1 .accepted))
+      let n = c .negate-for .ensures in
+      rw (n .0, n .1 .0, n .1 .1) (accepted-for (f start) (ts start) (start .pre .1 .accepted))
 
   for-placed : placedIn (length (c .negate-for .last .1 .0)) (start .args .c) ≡ true
   for-placed = rw (c .negate-for .kept .1 .0) (start .pre .0)
 
 apply-at-least-requires : tie.Need-apply-at-least-requires
 apply-at-least-requires c κs =
-    let d = c .before .before .before .before .before .before .before in
+    let d = c .before .before .before .before .before .before .before .before .before in
     let b = start d in
     let l = b .pre .1 .lent in
-    let e = d .negate-for .kept .1 .1 .0 in (
+    let k = d .negate-for .kept .1 .1 in (
       for-placed d,
       record {
         accepted = for-accepted d;
-        lent = record { keys-long = omega (arith, l .keys-long, e); spare-long = omega (arith, l .spare-long, e); stretches-long = omega (arith, l .stretches-long, e) };
+        lent = rw (k .0, k .1 .0) l;
       },
     )
 
 -- what was worked out
 module _ (c : tie.After-apply-at-least) where
   abbrev entered : tie.After-negate-for
-  entered = c .before .before .before .before .before .before .before .before
+  entered = c .before .before .before .before .before .before .before .before .before .before
 
   abbrev first : tie.Start
   first = start entered
 
   abbrev us : List Task
-  us = tasksOf (c .apply-at-least .last .1 .1 .0)
+  us = tasksOf (c .apply-at-least .last .1 .1 .1 .0)
 
-  out : resultOf (c .apply-at-least .result) (tasksFor (first .args .sense) (ts first)) us ≡ resultFor (first .args .sense) (callOf (first .args .c) (plain (first .args .sense) (qs first)) (ts first))
+  out : resultOf (c .apply-at-least .result) (tasksFor (first .args .sense) (ts first)) us ≡ resultFor (first .args .sense) (callOf (first .args .c) (f first) (ts first))
   out =
-      (rw (entered .negate-for .ensures .0, entered .negate-for .ensures .1) at (c .apply-at-least .ensures))
-      ∙ call-for (first .args .c) (plain (first .args .sense) (qs first)) (ts first)
+      let n = entered .negate-for .ensures in
+      (rw (n .0, n .1 .0, n .1 .1) at (c .apply-at-least .ensures)) ∙ call-for (first .args .c) (f first) (ts first)
 
-  back : resultOf (c .apply-at-least .result) (ts first) (tasksFor (first .args .sense) us) ≡ callOf (first .args .c) (plain (first .args .sense) (qs first)) (ts first)
-  back = call-back (first .args .sense) (c .apply-at-least .result) (ts first) us (callOf (first .args .c) (plain (first .args .sense) (qs first)) (ts first)) out
+  back : resultOf (c .apply-at-least .result) (ts first) (tasksFor (first .args .sense) us) ≡ callOf (first .args .c) (f first) (ts first)
+  back = call-back (first .args .sense) (c .apply-at-least .result) (ts first) us (callOf (first .args .c) (f first) (ts first)) out
 
 enum-known-f : tie.Need-enum-known-f
 enum-known-f c = search needs
@@ -83,13 +89,13 @@ enum-known-n c = search needs
 
 negate-for-requires-2 : tie.Need-negate-for-requires-2
 negate-for-requires-2 c κs =
-    let m = c .before .before .before in
+    let m = c .before .before .before .before in
     let d = m .before .before .before .before .before .before .before .before in
     let e = entered d in
     let n = m .n .given in
     let q = e .negate-for .last .1 .0 in
-    let vs = tasksOf (e .negate-for .last .1 .1 .0) in
-    call-keeps (atLeast q) vs (us d) (n .0 .0) (first d .args .c) (for-accepted e) (rw (length-resources q) (for-placed e))
+    let vs = tasksOf (e .negate-for .last .1 .1 .1 .0) in
+    call-keeps (atLeast q (e .negate-for .last .1 .1 .0)) vs (us d) (n .0 .0) (first d .args .c) (for-accepted e) (rw (length-resources q) (for-placed e))
     (sym (d .apply-at-least .ensures) ∙ ap (λ (a : Answer). resultOf a vs (us d)) (n .1)) .accepted
 
 same-length : tie.Need-same-length
@@ -107,15 +113,15 @@ same-length-4 c = search needs
 same-length-5 : tie.Need-same-length-5
 same-length-5 c = search needs
 
+same-length-6 : tie.Need-same-length-6
+same-length-6 c = search needs
+
 returns : tie.Need-returns
 returns c =
     let m = c .before in
     let d = m .before .before .before .before .before .before .before .before in
     let e = m .f .given .1 in
     (ap (λ (a : Answer). resultOf a (ts (first d)) (tasksFor (first d .args .sense) (us d))) (sym e) ∙ back d, tt)
-
-same-length-6 : tie.Need-same-length-6
-same-length-6 c = search needs
 
 same-length-7 : tie.Need-same-length-7
 same-length-7 c = search needs
@@ -129,15 +135,27 @@ same-length-9 c = search needs
 same-length-10 : tie.Need-same-length-10
 same-length-10 c = search needs
 
+same-length-11 : tie.Need-same-length-11
+same-length-11 c = search needs
+
+same-length-12 : tie.Need-same-length-12
+same-length-12 c = search needs
+
 returns-2 : tie.Need-returns-2
 returns-2 c =
-    let g = c .before .before in
-    let m = g .before .before .before .before in
+    let g = c .before .before .before in
+    let m = g .before .before .before .before .before in
     let d = m .before .before .before .before .before .before .before .before in
     let b = first d in
-    let n = m .n .given in (
-      rw (g .negate-for2 .ensures .1) (ap (λ (a : Answer). resultOf a (ts b) (tasksFor (b .args .sense) (us d))) (sym (n .1)) ∙ back d),
-      g .negate-for2 .ensures .0 ∙ ap (resourcesFor (b .args .sense)) (entered d .negate-for .ensures .0) ∙ resources-twice (b .args .sense) (qs b),
+    let sense = b .args .sense in
+    let n = m .n .given in
+    let on = entered d .negate-for .ensures in
+    let off = g .negate-for2 .ensures in (
+      rw (off .1 .1) (ap (λ (a : Answer). resultOf a (ts b) (tasksFor sense (us d))) (sym (n .1)) ∙ back d),
+      (
+        off .0 ∙ ap (resourcesFor sense) (on .0) ∙ resources-twice sense (qs b),
+        off .1 .0 ∙ ap (bandsFor sense) (on .1 .0) ∙ bands-twice sense (bs b),
+      ),
     )
 
 pub apply-spec : {M : Type 1} → statement M
@@ -154,10 +172,12 @@ apply-spec =
     same-length-3
     same-length-4
     same-length-5
-    returns
     same-length-6
+    returns
     same-length-7
     same-length-8
     same-length-9
     same-length-10
+    same-length-11
+    same-length-12
     returns-2)

@@ -25,7 +25,7 @@ use Rattle.engine.proofs.apply_at_least.Statement.{statement}
 use Rattle.engine.proofs.apply_at_least.Tie as tie
 
 abbrev f : tie.Start → Frame
-f c = atLeast (c .args .q .now)
+f c = atLeast (c .args .q .now) (c .args .b .now)
 
 abbrev ts : tie.Start → List Task
 ts c = tasksOf (c .args .s .now)
@@ -119,7 +119,7 @@ returns-3 c =
     let d = c .before .before .before .before .before .before .before in
     let e = d .before .before .before .before .before .before .before in
     let b = e .before .before .before .before in
-    let us = tasksOf (d .resource-step .last .1 .0) in
+    let us = tasksOf (d .resource-step .last .1 .1 .0) in
     let p = e .c .given .0 .0 in
     ap (λ (x : Answer). resultOf x (ts b) us) (c .left-if2 .ensures)
     ∙ left-result (d .resource-step .result .ok) (ts b) us (resourceStep (f b) p (ts b)) (d .resource-step .ensures .outcome) ∙ answers b (Step p) (e .c .given .1)
@@ -141,7 +141,7 @@ returns-4 c =
     let d = c .before .before .before .before .before .before .before in
     let e = d .before .before .before .before .before in
     let b = e .before .before .before .before in
-    let us = tasksOf (d .pass-rows .last .1 .0) in
+    let us = tasksOf (d .pass-rows .last .1 .1 .0) in
     ap (λ (x : Answer). resultOf x (ts b) us) (c .left-if3 .ensures)
     ∙ left-result (d .pass-rows .result .ok) (ts b) us (pass (f b) (ts b)) (d .pass-rows .ensures .outcome) ∙ answers b Pass (e .enum-told3 .given .1)
 

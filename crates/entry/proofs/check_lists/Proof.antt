@@ -33,7 +33,7 @@ returns-4 c f ts h =
     let n = h .resources-many in
     let m = h .tasks-many in
     rw (le-ltb mostTasks (length ts) (omega arith), ne-eqb (resourceCount f) 0 (λ e. omega arith), le-ltb mostResources (resourceCount f) (omega arith))
-    (rw (h .resources-held (omega arith), h .tasks-held (omega arith)) at (c .check-contents .ensures))
+    (rw (h .resources-held (omega arith), h .tasks-held (omega arith)) at (c .check-contents .ensures (f .bands) (h .bands-many) (h .bands-held)))
 
 pub check-lists-spec : {M : Type 1} → statement M
 check-lists-spec = tie.close (tie.spec returns returns-2 check-contents-requires returns-3 returns-4)

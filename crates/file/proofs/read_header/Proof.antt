@@ -29,7 +29,7 @@ returns : tie.Need-returns
 unfolding readHeader recordAt
 returns c =
     let file = c .before .before .before .before .args .file .now in
-    rw (refused 0 file (c .before .before .next .ensures) PL (1 ∷ 2 ∷ 3 ∷ 4 ∷ 5 ∷ []) tt (c .before .match .keys2), c .not-due .ensures)
+    rw (refused 0 file (c .before .before .next .ensures) PL (1 ∷ 2 ∷ 3 ∷ 4 ∷ 5 ∷ 6 ∷ []) tt (c .before .match .keys2), c .not-due .ensures)
 
 check-header-requires : tie.Need-check-header-requires
 check-header-requires c κs = search needs

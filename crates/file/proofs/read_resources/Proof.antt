@@ -42,7 +42,7 @@ unfolding recordAt
 returns c =
     let l = c .before .before .before .before .before .loop in
     let at = l .c .at in
-    let d = refused at (drop at (c .before .before .before .before .before .before .before .args .file .now)) (c .before .before .next-due .ensures) RS (0 ∷ 2 ∷ 3 ∷ 4 ∷ 5 ∷ []) tt (c .before .match .keys2) in
+    let d = refused at (drop at (c .before .before .before .before .before .before .before .args .file .now)) (c .before .before .next-due .ensures) RS (0 ∷ 2 ∷ 3 ∷ 4 ∷ 5 ∷ 6 ∷ []) tt (c .before .match .keys2) in
     reading-refused (l .inv .1) (omega arith) (rw (c .not-due .ensures) d)
 
 put-resource-requires : tie.Need-put-resource-requires Inv-loop μ-loop

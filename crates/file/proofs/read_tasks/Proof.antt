@@ -16,17 +16,17 @@ use Rattle.file.proofs.read_tasks.Statement.{statement}
 use Rattle.file.proofs.read_tasks.Tie as tie
 
 abbrev Inv-loop : tie.InvT-loop
-Inv-loop file h s₀ c₀ i₀ s c i =
-    (length s ≡ length s₀) × Reading (tasks (h .resources)) file (tasksFrom (h .resources)) (h .tasks) (tasksOf s₀) i (c .at) (tasksOf s)
+Inv-loop file h bands s₀ c₀ i₀ s c i =
+    (length s ≡ length s₀) × Reading (tasks (h .resources)) file (tasksFrom (h .resources) bands) (h .tasks) (tasksOf s₀) i (c .at) (tasksOf s)
 
 abbrev μ-loop : tie.MeasureT-loop
-μ-loop file h s₀ c₀ i₀ s c i = h .tasks - i
+μ-loop file h bands s₀ c₀ i₀ s c i = h .tasks - i
 
 tasks-from-requires : tie.Need-tasks-from-requires Inv-loop μ-loop
 tasks-from-requires c κs = search needs
 
 loop-holds : tie.Need-loop-holds Inv-loop μ-loop
-loop-holds c = let a = c .before .before .args in (refl, rw (c .tasks-from .ensures) (reading-starts (tasks (a .h .resources)) (a .file .now) (tasksFrom (a .h .resources)) (a .h .tasks) (tasksOf (a .s .now))))
+loop-holds c = let a = c .before .before .args in (refl, rw (c .tasks-from .ensures) (reading-starts (tasks (a .h .resources)) (a .file .now) (tasksFrom (a .h .resources) (a .bands)) (a .h .tasks) (tasksOf (a .s .now))))
 
 next-due-requires : tie.Need-next-due-requires Inv-loop μ-loop
 next-due-requires c κs = search needs
@@ -45,7 +45,7 @@ unfolding recordAt
 returns c =
     let l = c .before .before .before .before .before .loop in
     let at = l .c .at in
-    let d = refused at (drop at (c .before .before .before .before .before .before .before .before .args .file .now)) (c .before .before .next-due .ensures) TK (0 ∷ 1 ∷ 3 ∷ 4 ∷ 5 ∷ []) tt (c .before .match .keys2) in
+    let d = refused at (drop at (c .before .before .before .before .before .before .before .before .args .file .now)) (c .before .before .next-due .ensures) TK (0 ∷ 1 ∷ 2 ∷ 4 ∷ 5 ∷ 6 ∷ []) tt (c .before .match .keys2) in
     reading-refused (l .inv .1) (omega arith) (rw (c .not-due .ensures) d)
 
 put-task-requires : tie.Need-put-task-requires Inv-loop μ-loop

@@ -8,7 +8,7 @@ use Rattle.rules.specs.Frame.{Frame}
 use Rattle.rules.specs.Calls.{check}
 use Rattle.rules.proofs.Checks.{Accepts, accepts}
 use Rattle.rows.specs.View.{tasksOf, frameOf}
-use Rattle.rows.proofs.View.{length-tasks, length-resources}
+use Rattle.rows.proofs.View.{length-tasks, length-resources, length-bands}
 use Rattle.format.specs.Writing.{writeCall}
 use Rattle.format.proofs.Files.{rows-written}
 use borrow.Author.Needs.{needs}
@@ -18,7 +18,7 @@ use Rattle.file.proofs.write.Tie as tie
 -- once the checks have passed
 module _ (c : tie.After-enum-told) where
   abbrev f : Frame
-  f = frameOf (c .before .before .before .before .args .sense) (c .before .before .before .before .args .q .now)
+  f = frameOf (c .before .before .before .before .args .sense) (c .before .before .before .before .args .q .now) (c .before .before .before .before .args .b .now)
 
   abbrev ts : List Task
   ts = tasksOf (c .before .before .before .before .args .s .now)
@@ -39,7 +39,13 @@ enum-told : tie.Need-enum-told
 enum-told c = search needs
 
 room-for-requires : tie.Need-room-for-requires
-room-for-requires c κs = let a = plan c in (omega (arith, a .most, length-resources (c .before .before .before .before .args .q .now)), omega (arith, a .few, length-tasks (c .before .before .before .before .args .s .now)))
+room-for-requires c κs =
+    let a = plan c in
+    let rows = c .before .before .before .before .args in (
+      omega (arith, a .most, length-resources (rows .q .now)),
+      omega (arith, a .few-bands, length-bands (rows .b .now)),
+      omega (arith, a .few, length-tasks (rows .s .now)),
+    )
 
 enum-known-room : tie.Need-enum-known-room
 enum-known-room c = search needs
@@ -67,7 +73,7 @@ returns-2 c =
     let room = c .before .before .before in
     let told = room .before in
     let a = told .before .before .before .before .args in
-    rw (ok told, rows-written (a .sense) (a .q .now) (a .s .now), sym (room .room-for .ensures) ∙ c .before .room .given .1)
+    rw (ok told, rows-written (a .sense) (a .q .now) (a .b .now) (a .s .now), sym (room .room-for .ensures) ∙ c .before .room .given .1)
 
 same-length : tie.Need-same-length
 same-length c = search needs
@@ -80,7 +86,7 @@ returns-3 c =
     let room = fits .before .before in
     let told = room .before in
     let a = told .before .before .before .before .args in
-    let long = rows-written (a .sense) (a .q .now) (a .s .now) in
+    let long = rows-written (a .sense) (a .q .now) (a .b .now) (a .s .now) in
     rw (put .put-plan .ensures, c .file-length .ensures .0, ok told, long, sym (room .room-for .ensures) ∙ fits .enum-told2 .given .1) (rw long)
 
 pub write-spec : {M : Type 1} → statement M

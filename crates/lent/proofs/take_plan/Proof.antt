@@ -10,6 +10,9 @@ slice-aggregate-read-lent c = search needs
 slice-aggregate-read-lent-2 : tie.Need-slice-aggregate-read-lent-2
 slice-aggregate-read-lent-2 c = search needs
 
+slice-aggregate-read-lent-3 : tie.Need-slice-aggregate-read-lent-3
+slice-aggregate-read-lent-3 c = search needs
+
 read-lent-requires : tie.Need-read-lent-requires
 read-lent-requires c κs = search needs
 
@@ -18,6 +21,12 @@ slice-aggregate-unpack-resources c = search needs
 
 unpack-resources-requires : tie.Need-unpack-resources-requires
 unpack-resources-requires c κs = search needs
+
+slice-aggregate-unpack-bands : tie.Need-slice-aggregate-unpack-bands
+slice-aggregate-unpack-bands c = search needs
+
+unpack-bands-requires : tie.Need-unpack-bands-requires
+unpack-bands-requires c κs = search needs
 
 slice-aggregate-unpack-tasks : tie.Need-slice-aggregate-unpack-tasks
 slice-aggregate-unpack-tasks c = search needs
@@ -34,26 +43,31 @@ enum-known-answer-2 c = search needs
 returns : tie.Need-returns
 returns c =
     let t = c .before .before .before in
-    let u = t .before .before in
-    let k = u .before .before .before .before in
-    let a = k .before .before .before .before .args in
+    let v = t .before .before in
+    let u = v .before .before in
+    let k = u .before .before .before .before .before in
+    let a = k .before .before .before .before .before .args in
     let f = c .before .answer .given in
-    takes-none (a .places) (a .room) (a .file .now) (u .unpack-resources .result) (t .unpack-tasks .result) (f .0 .0) (rw (f .1) at (k .read-lent .ensures .0))
+    takes-none (a .places) (a .«band-room») (a .room) (a .file .now) (u .unpack-resources .result) (v .unpack-bands .result) (t .unpack-tasks .result) (f .0 .0) (rw (f .1) at (k .read-lent .ensures .0))
 
 returns-2 : tie.Need-returns-2
 returns-2 c =
     let t = c .before .before .before in
-    let u = t .before .before in
-    let k = u .before .before .before .before in
-    let a = k .before .before .before .before .args in
+    let v = t .before .before in
+    let u = v .before .before in
+    let k = u .before .before .before .before .before in
+    let a = k .before .before .before .before .before .args in
     let r = k .read-lent in
     let g = c .before .answer2 .given in
-    takes-plan (a .places) (a .room) (a .file .now) _ _ (g .0 .0) (g .0 .1 .0) (g .0 .1 .1 .0) (r .last .1 .1 .1 .0) (r .last .1 .1 .1 .1 .0)
-    (rw (g .1) at (r .ensures .0))
+    takes-plan (a .places) (a .«band-room») (a .room) (a .file .now) _ _ _ (g .0 .0) (g .0 .1 .0) (g .0 .1 .1 .0) (g .0 .1 .1 .1 .0)
+    (r .last .1 .1 .1 .1 .0) (r .last .1 .1 .1 .1 .1 .0) (r .last .1 .1 .1 .1 .1 .1 .0)
     (rw (g .1) at (r .ensures .1))
-    (r .kept .1 .1 .1 .0)
+    (rw (g .1) at (r .ensures .0))
     (r .kept .1 .1 .1 .1 .0)
+    (r .kept .1 .1 .1 .1 .1 .0)
+    (r .kept .1 .1 .1 .1 .1 .1 .0)
     (u .unpack-resources .ensures)
+    (v .unpack-bands .ensures)
     (t .unpack-tasks .ensures)
 
 pub take-plan-spec : {M : Type 1} → statement M
@@ -62,9 +76,12 @@ take-plan-spec =
     (tie.spec
     slice-aggregate-read-lent
     slice-aggregate-read-lent-2
+    slice-aggregate-read-lent-3
     read-lent-requires
     slice-aggregate-unpack-resources
     unpack-resources-requires
+    slice-aggregate-unpack-bands
+    unpack-bands-requires
     slice-aggregate-unpack-tasks
     unpack-tasks-requires
     enum-known-answer

@@ -1,4 +1,4 @@
--- Refusals 1 and 2 by the counts; else the arrays hold the lists whole.
+-- Refusals 1 and 2 by the counts; else the arrays hold resources and tasks whole.
 use native.Mathlib.Omega.{arith}
 use Rattle.lent.proofs.Writing.{many-tasks, many-resources}
 use borrow.Author.Needs.{needs}
@@ -6,14 +6,14 @@ use Rattle.lent.proofs.write_loaded.Statement.{statement}
 use Rattle.lent.proofs.write_loaded.Tie as tie
 
 returns : tie.Need-returns
-returns c qs ts h =
+returns c qs bs ts h =
     let a = c .before .before .args in
-    many-tasks (a .sense) qs ts (a .out .now) (omega (arith, h .tasks-many))
+    many-tasks (a .sense) qs bs ts (a .out .now) (omega (arith, h .tasks-many))
 
 returns-2 : tie.Need-returns-2
-returns-2 c qs ts h =
+returns-2 c qs bs ts h =
     let a = c .before .before .before .args in
-    many-resources (a .sense) qs ts (a .out .now) (omega (arith, h .tasks-many)) (omega (arith, h .resources-many))
+    many-resources (a .sense) qs bs ts (a .out .now) (omega (arith, h .tasks-many)) (omega (arith, h .resources-many))
 
 write-few-requires : tie.Need-write-few-requires
 write-few-requires c κs = search needs
@@ -22,10 +22,7 @@ same-length : tie.Need-same-length
 same-length c = search needs
 
 returns-3 : tie.Need-returns-3
-returns-3 c qs ts h =
-    let q = h .resources-held (omega (arith, h .resources-many)) in
-    let p = h .tasks-held (omega (arith, h .tasks-many)) in
-    rw (q, p) at (c .before .before .write-few .ensures)
+returns-3 c = search needs
 
 pub write-loaded-spec : {M : Type 1} → statement M
 write-loaded-spec = tie.close (tie.spec returns returns-2 write-few-requires same-length returns-3)

@@ -22,7 +22,7 @@ use Rattle.passes.proofs.pass_rows.Statement.{statement}
 use Rattle.passes.proofs.pass_rows.Tie as tie
 
 abbrev f : tie.Start → Frame
-f c = atLeast (c .args .q .now)
+f c = atLeast (c .args .q .now) (c .args .b .now)
 
 abbrev ts : tie.Start → List Task
 ts c = tasksOf (c .args .s .now)
@@ -96,7 +96,7 @@ returns-2 c =
     let d = e .before .before .before .before .before in
     let b = start d in
     let ok = not-false (d .balance .result .ok) (e .if1 .left) in
-    pass-took (f b) (ts b) (b .pre .0 .accepted) (passed d) (us d) (took d) ok (s .steps-rows .result) (tasksOf (s .steps-rows .last .1 .0)) (s .steps-rows .ensures)
+    pass-took (f b) (ts b) (b .pre .0 .accepted) (passed d) (us d) (took d) ok (s .steps-rows .result) (tasksOf (s .steps-rows .last .1 .1 .0)) (s .steps-rows .ensures)
 
 pub pass-rows-spec : {M : Type 1} → statement M
 pass-rows-spec =

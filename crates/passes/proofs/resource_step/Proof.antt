@@ -9,7 +9,7 @@ use Rattle.plan.specs.declared.Power.{Power}
 use Rattle.plan.specs.declared.Task.{Task}
 use Rattle.plan.specs.Powers.{powerEnds}
 use Rattle.plan.specs.Sets.{union}
-use Rattle.rules.specs.Frame.{Frame, resourceCount, limitOn}
+use Rattle.rules.specs.Frame.{Frame, resourceCount, limitFrom, limitOn}
 use Rattle.rules.specs.Step.{atLeastStep}
 use Rattle.rules.proofs.Checks.{Accepts, accepts, check-wide}
 use Rattle.rows.specs.View.{tasksOf, atLeast}
@@ -20,7 +20,7 @@ use Rattle.passes.proofs.resource_step.Statement.{statement}
 use Rattle.passes.proofs.resource_step.Tie as tie
 
 abbrev f : tie.Start → Frame
-f c = atLeast (c .args .q .now)
+f c = atLeast (c .args .q .now) (c .args .b .now)
 
 abbrev ts : tie.Start → List Task
 ts c = tasksOf (c .args .s .now)
@@ -29,7 +29,7 @@ known : (c : tie.Start) → Accepts (f c) (ts c)
 known c = accepts (f c) (ts c) (c .pre .0 .1 .accepted)
 
 inside : (c : tie.Start) → c .args .r < resourceCount (f c)
-inside c = place-inside (c .args .q .now) (c .args .r) (c .pre .0 .0)
+inside c = place-inside (c .args .q .now) (c .args .b .now) (c .args .r) (c .pre .0 .0)
 
 small : (c : tie.Start) → c .args .r < 64
 small c = place-small (c .pre .0 .1) (c .args .r) (c .pre .0 .0)
@@ -46,6 +46,8 @@ step-requires c κs =
       record {
         place = small b;
         limited = subst (λ (p : Power). Within powerEnds (p .0)) (sym (l .limit-at .ensures)) (k .limits r (inside b));
+        banded = k .banded r;
+        few-bands = k .few-bands;
         few = omega (arith, k .few, length-tasks (b .args .s .now));
       },
       (b .pre .0 .1 .lent, check-wide (f b) (ts b) (b .pre .0 .1 .accepted)),
@@ -79,7 +81,7 @@ returns c =
     let r = b .args .r in
     rw (c .before .before .some-touched .ensures, c .before .without-resource .ensures)
     (step-took (f b) refl (ts b) (tasksOf (d .step .last .0)) (b .pre .0 .1 .accepted) (d .step .result) (d .step .ensures .1) r (inside b) (p .changed) (p .mask) (b .pre .1)
-    (d .step .ensures .0 ∙ ap (λ (x : Power). atLeastStep r (λ i. x .0) (ts b)) (l .limit-at .ensures) ∙ sym (at-least-step (f b) refl r (ts b))))
+    (d .step .ensures .0 ∙ ap (λ (x : Power). atLeastStep r (limitFrom r (x .0) (f b .bands)) (ts b)) (l .limit-at .ensures) ∙ sym (at-least-step (f b) refl r (ts b))))
 
 pub resource-step-spec : {M : Type 1} → statement M
 resource-step-spec =

@@ -22,15 +22,15 @@ use Rattle.passes.proofs.settle_rows.Statement.{statement}
 use Rattle.passes.proofs.settle_rows.Tie as tie
 
 abbrev Inv-loop : tie.InvT-loop
-Inv-loop q s₀ keys₀ spare₀ ss₀ mask₀ passes₀ s keys spare ss mask passes =
+Inv-loop q b s₀ keys₀ spare₀ ss₀ mask₀ passes₀ s keys spare ss mask passes =
     (length s ≡ length s₀) × (length keys ≡ length keys₀) × (length spare ≡ length spare₀) × (length ss ≡ length ss₀)
-    × Settles (atLeast q) (tasksOf s₀) (tasksOf s) mask passes
+    × Settles (atLeast q b) (tasksOf s₀) (tasksOf s) mask passes
 
 abbrev μ-loop : tie.MeasureT-loop
-μ-loop q s₀ keys₀ spare₀ ss₀ mask₀ passes₀ s keys spare ss mask passes = rooms (tasksOf s)
+μ-loop q b s₀ keys₀ spare₀ ss₀ mask₀ passes₀ s keys spare ss mask passes = rooms (tasksOf s)
 
 abbrev f : tie.Start Inv-loop μ-loop → Frame
-f c = atLeast (c .args .q .now)
+f c = atLeast (c .args .q .now) (c .args .b .now)
 
 abbrev ts : tie.Start Inv-loop μ-loop → List Task
 ts c = tasksOf (c .args .s .now)
@@ -73,7 +73,7 @@ returns c =
     let b = l .before .before .before .before .before in
     let p = d .pass-rows .result in
     answers b Settled.Refused
-    (settles-none (f b) refl (ts b) (tasksOf (l .loop .s)) (l .loop .mask) (l .loop .passes) (l .loop .inv .4) p (tasksOf (d .pass-rows .last .1 .0)) (d .pass-rows .ensures) (not-out (p .ok) (c .if1 .taken)))
+    (settles-none (f b) refl (ts b) (tasksOf (l .loop .s)) (l .loop .mask) (l .loop .passes) (l .loop .inv .4) p (tasksOf (d .pass-rows .last .1 .1 .0)) (d .pass-rows .ensures) (not-out (p .ok) (c .if1 .taken)))
 
 add-passes : tie.Need-add-passes Inv-loop μ-loop
 add-passes c =
@@ -101,7 +101,7 @@ returns-2 c =
     let l = d .before .before .before .before .before in
     let b = l .before .before .before .before .before in
     let p = d .pass-rows .result in
-    let us = tasksOf (d .pass-rows .last .1 .0) in
+    let us = tasksOf (d .pass-rows .last .1 .1 .0) in
     answers b (Settled.After _ us)
     (settles-last (f b) refl (ts b) (tasksOf (l .loop .s)) (l .loop .mask) (l .loop .passes) (l .loop .inv .4) p us (d .pass-rows .ensures) (not-false (p .ok) (e .if1 .left)) (not-out (p .changed) (c .if2 .taken)))
 
@@ -112,7 +112,7 @@ loop-less c =
     let l = d .before .before .before .before .before in
     let b = l .before .before .before .before .before in
     let p = d .pass-rows .result in
-    settles-less (f b) refl (ts b) (tasksOf (l .loop .s)) (l .loop .mask) (l .loop .passes) (l .loop .inv .4) p (tasksOf (d .pass-rows .last .1 .0)) (d .pass-rows .ensures) (not-false (p .ok) (e .if1 .left)) (not-false (p .changed) (c .if2 .left))
+    settles-less (f b) refl (ts b) (tasksOf (l .loop .s)) (l .loop .mask) (l .loop .passes) (l .loop .inv .4) p (tasksOf (d .pass-rows .last .1 .1 .0)) (d .pass-rows .ensures) (not-false (p .ok) (e .if1 .left)) (not-false (p .changed) (c .if2 .left))
 
 loop-again : tie.Need-loop-again Inv-loop μ-loop
 loop-again c =
@@ -125,7 +125,7 @@ loop-again c =
       omega arith,
       omega arith,
       omega arith,
-      settles-more (f b) refl (ts b) (tasksOf (l .loop .s)) (l .loop .mask) (l .loop .passes) (l .loop .inv .4) p (tasksOf (d .pass-rows .last .1 .0)) (d .pass-rows .ensures) (not-false (p .ok) (e .if1 .left)) (not-false (p .changed) (c .if2 .left)),
+      settles-more (f b) refl (ts b) (tasksOf (l .loop .s)) (l .loop .mask) (l .loop .passes) (l .loop .inv .4) p (tasksOf (d .pass-rows .last .1 .1 .0)) (d .pass-rows .ensures) (not-false (p .ok) (e .if1 .left)) (not-false (p .changed) (c .if2 .left)),
     )
 
 pub settle-rows-spec : {M : Type 1} → statement M

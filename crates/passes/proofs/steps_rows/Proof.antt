@@ -24,15 +24,15 @@ use Rattle.passes.proofs.steps_rows.Statement.{statement}
 use Rattle.passes.proofs.steps_rows.Tie as tie
 
 abbrev Inv-loop : tie.InvT-loop
-Inv-loop q s₀ keys₀ spare₀ ss₀ p₀ r₀ s keys spare ss p r =
+Inv-loop q b s₀ keys₀ spare₀ ss₀ p₀ r₀ s keys spare ss p r =
     (r ≤ length q) × (length s ≡ length s₀) × (length keys ≡ length keys₀) × (length spare ≡ length spare₀) × (length ss ≡ length ss₀)
-    × (p .ok ≡ true) × Passing (atLeast q) (tasksOf s₀) (p₀ .changed) r p (tasksOf s)
+    × (p .ok ≡ true) × Passing (atLeast q b) (tasksOf s₀) (p₀ .changed) r p (tasksOf s)
 
 abbrev μ-loop : tie.MeasureT-loop
-μ-loop q s₀ keys₀ spare₀ ss₀ p₀ r₀ s keys spare ss p r = length q - r
+μ-loop q b s₀ keys₀ spare₀ ss₀ p₀ r₀ s keys spare ss p r = length q - r
 
 abbrev f : tie.Start Inv-loop μ-loop → Frame
-f c = atLeast (c .args .q .now)
+f c = atLeast (c .args .q .now) (c .args .b .now)
 
 abbrev ts : tie.Start Inv-loop μ-loop → List Task
 ts c = tasksOf (c .args .s .now)
@@ -49,9 +49,9 @@ module _ (i : tie.In-loop Inv-loop μ-loop) where
   here = omega (arith, i .loop-test)
 
   inside : l .loop .r < resourceCount (f b)
-  inside = place-inside (b .args .q .now) (l .loop .r) here
+  inside = place-inside (b .args .q .now) (b .args .b .now) (l .loop .r) here
 
-  ready : Ready (b .args .q .now) (l .loop .s) (l .loop .keys) (l .loop .spare) (l .loop .ss)
+  ready : Ready (b .args .q .now) (b .args .b .now) (l .loop .s) (l .loop .keys) (l .loop .spare) (l .loop .ss)
   ready =
       let v = l .loop .inv in
       stays-ready (b .pre .0 .1) (l .loop .s) (l .loop .keys) (l .loop .spare) (l .loop .ss) (v .6 .keeps (v .5) .accepted) (v .1) (v .2) (v .3) (v .4)
@@ -90,8 +90,8 @@ returns : tie.Need-returns Inv-loop μ-loop
 returns c =
     let s = c .before .before .before .before .before .before .before .before in
     let i = s .before .before .before .before .before .before .before in
-    passing-none (f (b i)) (ts (b i)) (b i .pre .0 .1 .accepted) (b i .args .first .changed) (l i .loop .r + 1) (s .resource-step .result) (tasksOf (s .resource-step .last .1 .0))
-    (past i (s .resource-step .result) (tasksOf (s .resource-step .last .1 .0)) (s .resource-step .ensures))
+    passing-none (f (b i)) (ts (b i)) (b i .pre .0 .1 .accepted) (b i .args .first .changed) (l i .loop .r + 1) (s .resource-step .result) (tasksOf (s .resource-step .last .1 .1 .0))
+    (past i (s .resource-step .result) (tasksOf (s .resource-step .last .1 .1 .0)) (s .resource-step .ensures))
     (not-out (s .resource-step .result .ok) (c .if2 .taken))
 
 add-r : tie.Need-add-r Inv-loop μ-loop
@@ -109,12 +109,12 @@ loop-again c =
     (λ w.
     let o = w .5 in (
       le,
-      ap length (w .14) ∙ o .kept .1 .0 ∙ v .1,
-      ap length (w .15) ∙ o .kept .1 .1 .1 .1 .0 ∙ v .2,
-      ap length (w .16) ∙ o .kept .1 .1 .1 .1 .1 .0 ∙ v .3,
-      ap length (w .17) ∙ o .kept .1 .1 .1 .1 .1 .1 .0 ∙ v .4,
+      ap length (w .14) ∙ o .kept .1 .1 .0 ∙ v .1,
+      ap length (w .15) ∙ o .kept .1 .1 .1 .1 .1 .0 ∙ v .2,
+      ap length (w .16) ∙ o .kept .1 .1 .1 .1 .1 .1 .0 ∙ v .3,
+      ap length (w .17) ∙ o .kept .1 .1 .1 .1 .1 .1 .1 .0 ∙ v .4,
       ap (λ (p : Passed). p .ok) (w .18) ∙ not-false (o .result .ok) (w .13 .left),
-      rw (w .14, w .18) (past i (o .result) (tasksOf (o .last .1 .0)) (o .ensures)),
+      rw (w .14, w .18) (past i (o .result) (tasksOf (o .last .1 .1 .0)) (o .ensures)),
     ))
     (λ w. (
       le,

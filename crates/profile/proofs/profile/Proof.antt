@@ -1,31 +1,49 @@
--- `profile::profile`: events, stretches and shortfall, joined by one law.
+-- `profile::profile`: events, bands, stretches and shortfall, joined by one law.
 use native.Mathlib.Omega.{arith}
-use Rattle.integers.proofs.Z.{z, ~z}
 use lib.ListN.{length}
-use Rattle.rows.specs.View.{tasksOf}
+use Rattle.integers.specs.Hull.{range}
+use Rattle.integers.proofs.Z.{z, ~z}
+use Rattle.rules.specs.Frame.{limitFrom}
+use Rattle.rows.specs.View.{tasksOf, bandsOf}
+use Rattle.rows.proofs.View.{length-bands}
 use Rattle.stretches.specs.View.{stretchesOf}
 use Rattle.stretches.proofs.View.{length-stretches}
+use Rattle.levels.specs.Levels.{bandKeys}
+use Rattle.profile.proofs.Turns.{band-turns}
 use Rattle.profile.proofs.Promise.{profiled}
 use borrow.Author.Needs.{needs}
 use Rattle.profile.proofs.profile.Statement.{statement}
 use Rattle.profile.proofs.profile.Tie as tie
 
 collect-requires : tie.Need-collect-requires
-collect-requires c κs = search needs
+collect-requires c κs = let a = c .before .before .before in ((a .pre .0 .place, a .pre .0 .few, omega (arith, a .pre .1 .0)), a .pre .1 .1)
+
+put-levels-requires : tie.Need-put-levels-requires
+put-levels-requires c κs =
+    let q = c .before .before .before .before .collect in
+    let a = c .before .before .before .before .before .before .before .before in
+    (omega (arith, q .ensures .1 .1, q .kept .1 .1 .0, a .pre .1 .0), a .pre .0 .banded, a .pre .0 .limited)
 
 negated-requires : tie.Need-negated-requires
 negated-requires c κs =
-    let a = c .before .before .before .before .before .before .before .before .before in
-    omega (z, ~z (a .args .limit .0), a .pre .0 .limited)
+    let l = c .before .before .before .before .before .put-levels in
+    omega (z, ~z (l .result .start .0), l .ensures .1 .1 .1)
 
 sweep-events-requires : tie.Need-sweep-events-requires
 sweep-events-requires c κs =
-    let q = c .before .before .before .before .before .before .before .collect in
-    let a = c .before .before .before .before .before .before .before .before .before .before .before in
-    let e = q .ensures .1 .1 in
-    let l = a .pre .1 .0 in (
-      (omega (arith, e, q .kept .1 .1 .0, l), omega (arith, e, a .pre .0), omega (arith, e, l), omega (arith, e, l)),
-      rw (c .before .negated .ensures) (omega (z, ~z (a .args .limit .0), a .pre .0 .limited)),
+    let l = c .before .before .before .before .before .before .before .put-levels in
+    let q = c .before .before .before .before .before .before .before .before .before .before .before .before .collect in
+    let a = c .before .before .before .before .before .before .before .before .before .before .before .before .before .before .before .before in
+    let m = l .ensures .1 .1 .0 in
+    let n = q .ensures .1 .1 in
+    let few = length-bands (a .args .b .now) in (
+      (
+        omega (arith, m, n, q .kept .1 .1 .0, l .kept .1 .1 .1 .1 .0, a .pre .1 .0),
+        omega (arith, m, n, few, a .pre .0 .few, a .pre .0 .few-bands),
+        omega (arith, m, n, a .pre .1 .0),
+        omega (arith, m, n, a .pre .1 .0),
+      ),
+      rw (c .before .negated .ensures) (omega (z, ~z (l .result .start .0), l .ensures .1 .1 .1)),
     )
 
 first-short-requires : tie.Need-first-short-requires
@@ -46,13 +64,22 @@ returns : tie.Need-returns
 returns c =
     let w = c .before .before .before .before .before .before .before .sweep-events in
     let g = c .before .before .before .before .before .before .before .before .before .negated in
-    let q = c .before .before .before .before .before .before .before .before .before .before .before .before .before .before .before .collect in
-    let a = c .before .before .before .before .before .before .before .before .before .before .before .before .before .before .before .before .before .before .before in
-    let ts = tasksOf (a .args .s .now) in
+    let k = c .before .before .before .before .before .before .before .before .before .before .before .before .before .before .before in
+    let l = k .put-levels in
+    let q = k .before .before .before .before .before .collect in
+    let a = k .before .before .before .before .before .before .before .before .before in
+    let r = a .args .r in
+    let x = a .args .limit .0 in
+    let bs = bandsOf (a .args .b .now) in
+    let e = q .result .extremes in
+    let reach = range (e .low .0) (e .high .0) in
+    let keys = bandKeys r (e .low .0) (e .high .0) x bs in
+    let turns = band-turns r reach x bs (a .pre .0 .banded) (a .pre .0 .limited) in
+    let laid = rw (q .ensures .0 .front) at (l .ensures .0 .front) in
     let ss = stretchesOf (w .last .1 .1 .1 .1 .1 .0) in (
       omega (arith, w .ensures .few, length-stretches (w .last .1 .1 .1 .1 .1 .0)),
-      profiled (a .args .r) (a .args .limit .0) ts _ (q .result .extremes) ss (w .result) (c .first-short .result) (a .pre .1 .1)
-          (q .ensures .0 .front) (q .ensures .1 .0) (rw (g .ensures) at (w .ensures)) (c .first-short .ensures),
+      profiled r (limitFrom r x bs) (limitFrom r x bs (e .low .0)) keys (tasksOf (a .args .s .now)) _ e ss (w .result) (c .first-short .result) (a .pre .1 .1)
+          turns laid (q .ensures .1 .0) (rw (g .ensures, l .ensures .1 .0) at (w .ensures)) (c .first-short .ensures),
     )
 
 pub profile-spec : {M : Type 1} → statement M
@@ -60,6 +87,7 @@ profile-spec =
     tie.close
     (tie.spec
     collect-requires
+    put-levels-requires
     negated-requires
     sweep-events-requires
     first-short-requires

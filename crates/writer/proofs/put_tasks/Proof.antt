@@ -19,16 +19,16 @@ use Rattle.writer.proofs.put_tasks.Statement.{statement}
 use Rattle.writer.proofs.put_tasks.Tie as tie
 
 abbrev Inv-loop : tie.InvT-loop
-Inv-loop b₀ n s at₀ i₀ b at i = Storing (tasks-lawful n) (tasksOf s) b₀ (tasksFrom n) i at b
+Inv-loop b₀ n k s at₀ i₀ b at i = Storing (tasks-lawful n) (tasksOf s) b₀ (tasksFrom n k) i at b
 
 abbrev μ-loop : tie.MeasureT-loop
-μ-loop b₀ n s at₀ i₀ b at i = length s - i
+μ-loop b₀ n k s at₀ i₀ b at i = length s - i
 
 tasks-from-requires : tie.Need-tasks-from-requires Inv-loop μ-loop
 tasks-from-requires c κs = search needs
 
 loop-holds : tie.Need-loop-holds Inv-loop μ-loop
-loop-holds c = let s = c .before .before in rw (c .tasks-from .ensures) (storing-starts (tasks-lawful (s .args .n)) (tasksOf (s .args .s .now)) (s .args .b .now) (tasksFrom (s .args .n)))
+loop-holds c = let s = c .before .before in rw (c .tasks-from .ensures) (storing-starts (tasks-lawful (s .args .n)) (tasksOf (s .args .s .now)) (s .args .b .now) (tasksFrom (s .args .n) (s .args .k)))
 
 task-at-requires : tie.Need-task-at-requires Inv-loop μ-loop
 task-at-requires c κs = search needs

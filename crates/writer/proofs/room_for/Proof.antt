@@ -14,13 +14,13 @@ returns : tie.Need-returns
 unfolding roomFor
 returns c =
     let a = c .before .before .args in
-    rw (lt-ltb (a .out) (fileLength (a .resources) (a .tasks)) (omega (arith, c .if1 .taken, c .before .file-length .ensures .0)))
+    rw (lt-ltb (a .out) (fileLength (a .resources) (a .bands) (a .tasks)) (omega (arith, c .if1 .taken, c .before .file-length .ensures .0)))
 
 returns-2 : tie.Need-returns-2
 unfolding roomFor
 returns-2 c =
     let a = c .before .before .args in
-    rw (le-ltb (a .out) (fileLength (a .resources) (a .tasks)) (omega (arith, c .if1 .left, c .before .file-length .ensures .0)))
+    rw (le-ltb (a .out) (fileLength (a .resources) (a .bands) (a .tasks)) (omega (arith, c .if1 .left, c .before .file-length .ensures .0)))
 
 pub room-for-spec : {M : Type 1} → statement M
 room-for-spec = tie.close (tie.spec file-length-requires returns returns-2)

@@ -1,0 +1,2 @@
+-- A resource's bands as changes of its limit.
+pub mod Levels

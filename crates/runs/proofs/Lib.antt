@@ -1,0 +1,3 @@
+-- Laws of the run of bands.
+pub mod Going
+pub mod Rooms
