@@ -14,6 +14,7 @@ struct work {
     size_t length;
     unsigned calls;
     char call;
+    const uint8_t *top;
     uint64_t answer;
     double microseconds;
 };
@@ -27,10 +28,12 @@ static __attribute__((noinline)) double now(void) {
 
 static void *work(void *given) {
     struct work *w = given;
+    w->top = __builtin_frame_address(0); /* what the thread took before this is not the calls' */
     w->microseconds = -now(); /* timed inside the thread, whose start may wait for a processor */
     for (unsigned k = 0; k < w->calls; k++) switch (w->call) {
         case 'c': w->answer = gristwaltz_check(w->file, w->length); break;
         case 'b': w->answer = gristwaltz_balance(w->file, w->length, w->out, sizeof w->out); break;
+        case 'p': w->answer = gristwaltz_pass(w->file, w->length, w->out, sizeof w->out); break;
         case 'r': w->answer = gristwaltz_resource_step(w->file, w->length, 0, w->out, sizeof w->out); break;
         default: w->answer = gristwaltz_settle(w->file, w->length, w->out, sizeof w->out);
         }
@@ -38,7 +41,7 @@ static void *work(void *given) {
     return NULL;
 }
 
-/* The part of a fresh stack that so many calls touched. */
+/* The bytes of a fresh stack that so many calls touched. */
 static size_t touched(struct work *w, unsigned calls) {
     uint8_t *stack = NULL;
     if (posix_memalign((void **)&stack, 4096, STACK)) exit(2);
@@ -52,8 +55,9 @@ static size_t touched(struct work *w, unsigned calls) {
     pthread_join(thread, NULL);
     size_t clean = 0;
     while (clean < STACK && stack[clean] == PAINT) clean++;
+    size_t below = (size_t)(w->top - stack);
     free(stack);
-    return STACK - clean;
+    return below - clean;
 }
 
 /* The best of a few rounds of so many calls, in microseconds a round. */
@@ -73,20 +77,29 @@ static double time_of(struct work *w, char call) {
     return best_of(w, calls) / calls;
 }
 
-/* The most that one of the four calls takes; settling comes last, so its answer stays. */
-static size_t stack_of(struct work *w) {
-    size_t most = 0, none = touched(w, 0);
-    for (const char *call = "cbrs"; *call; call++) {
-        w->call = *call;
-        size_t stack = touched(w, 1) - none;
-        if (stack > most) most = stack;
+/* The calls by their letters, as they stand in a line; settling comes last, so its answer stays. */
+static const char calls[] = "cbrps";
+enum { CALLS = sizeof calls - 1 };
+
+/* One plan file: what it is, then the stack of each call and its microseconds. */
+static void tell(struct work *w, const char *name) {
+    size_t stack[CALLS];
+    double microseconds[CALLS];
+    for (int k = 0; k < CALLS; k++) {
+        microseconds[k] = time_of(w, calls[k]);
+        stack[k] = touched(w, 1);
     }
-    return most;
+    printf("%-10s %6zu %8u %7u", name, w->length, gristwaltz_refusal(w->answer), gristwaltz_passes(w->answer));
+    for (int k = 0; k < CALLS; k++) printf(" %7zu", stack[k]);
+    for (int k = 0; k < CALLS; k++) printf(" %8.2f", microseconds[k]);
+    printf("\n");
 }
 
 int main(int count, char **names) {
     static struct work w;
-    printf("%-10s %6s %8s %7s %7s   microseconds: %8s %8s %8s %8s\n", "plan", "bytes", "refusal", "passes", "stack", "check", "balance", "step", "settle");
+    printf("%-33s  %-39s  microseconds\n", "", "stack");
+    printf("%-10s %6s %8s %7s %7s %7s %7s %7s %7s %8s %8s %8s %8s %8s\n", "plan", "bytes", "refusal", "passes",
+           "check", "balance", "step", "pass", "settle", "check", "balance", "step", "pass", "settle");
     for (int k = 1; k < count; k++) {
         FILE *f = fopen(names[k], "rb");
         if (!f) return 2;
@@ -94,10 +107,7 @@ int main(int count, char **names) {
         if (fgetc(f) != EOF) return fprintf(stderr, "limits: %s is longer than the header's longest file\n", names[k]), 2;
         fclose(f);
         const char *name = strrchr(names[k], '/');
-        double check = time_of(&w, 'c'), balance = time_of(&w, 'b'), step = time_of(&w, 'r'), settle = time_of(&w, 's');
-        size_t stack = stack_of(&w);
-        printf("%-10s %6zu %8u %7u %7zu                 %8.2f %8.2f %8.2f %8.2f\n", name ? name + 1 : names[k], w.length,
-               gristwaltz_refusal(w.answer), gristwaltz_passes(w.answer), stack, check, balance, step, settle);
+        tell(&w, name ? name + 1 : names[k]);
     }
     return 0;
 }

@@ -10,7 +10,7 @@ long read(int from, void *to, unsigned long count);
 long write(int to, const void *from, unsigned long count);
 
 /* the calls, numbered as bulk/src/engine.rs sends them */
-enum { SETTLE, CHECK, BALANCE, STEP };
+enum { SETTLE, CHECK, BALANCE, STEP, PASS };
 /* more than the longest file with a margin on either side; a longer request is refused */
 enum { ROOM = 2 * GRISTWALTZ_LONGEST_FILE };
 
@@ -61,6 +61,8 @@ static uint64_t answer_to(const struct request *q)
         return gristwaltz_check(file, q->file_len);
     case BALANCE:
         return gristwaltz_balance(file, q->file_len, out, out_len);
+    case PASS:
+        return gristwaltz_pass(file, q->file_len, out, out_len);
     default:
         return gristwaltz_resource_step(file, q->file_len, q->place, out, out_len);
     }

@@ -4,9 +4,9 @@
  * A plan is a plan file in memory (at most 10,150 bytes). Every call takes any bytes, keeps no state, uses no heap and may run on any number
  * of threads at once. `file` and `out` point to as many bytes as their lengths say, are not NULL, and do not overlap.
  *
- * Every call answers one number: the refusal number times 2^32 plus the place, or, where the refusal number is 0, the pass count (0 for
- * a call that makes no pass). On success exactly as many bytes as `file` has are written to the front of `out`; on a refusal the whole of
- * `out` is as it was.
+ * Every call answers one number: the refusal number times 2^32 plus the place, or, where the refusal number is 0, the pass count of
+ * settling (0 for every other call). A call that is lent an `out` writes on success exactly as many bytes as `file` has to its front; on a
+ * refusal the whole of `out` is as it was.
  *
  * Refusals, in the order in which they are looked for: 8 and 9 of the first record, 1 (over 256 tasks), 2 (no resource, or over 16), 8 and
  * 9 of the other records and of what is left over, with 13 for a 65th band where it is met whole, 3 (an identifier repeats), 4 (a limit outside its
@@ -37,6 +37,13 @@ uint64_t gristwaltz_balance(const uint8_t *file, size_t file_len, uint8_t *out, 
 
 /* One resource step of the resource at `place` (counted from 0), written to `out`: 0, or the refusal. */
 uint64_t gristwaltz_resource_step(const uint8_t *file, size_t file_len, size_t place, uint8_t *out, size_t out_len);
+
+/* One pass, the balance step and then the step of each resource in list order, written to `out`: 0, or the refusal (only settling
+ * reports a pass count). A host that cuts off long calls makes passes one by one, each on the file that the one before wrote, until one
+ * changes nothing: until the bytes written are those of `file`. That is settling, and the pass that changes nothing counts too: the same
+ * bytes after as many passes as gristwaltz_settle answers, or its refusal. Whatever a pass left is a plan file with the same allowed
+ * plans: it can be kept, and gone on from later, by passes or by gristwaltz_settle, whose count then begins anew. */
+uint64_t gristwaltz_pass(const uint8_t *file, size_t file_len, uint8_t *out, size_t out_len);
 
 /* An answer taken apart: the refusal number (0: done), the place of a refusal (else 0), the passes of a settled plan (0 on a refusal). */
 static inline uint32_t gristwaltz_refusal(uint64_t answer) { return (uint32_t)(answer >> 32); }

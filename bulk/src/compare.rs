@@ -12,6 +12,8 @@ const MARGIN: usize = 16;
 const MOST_LISTED: u128 = 1_500;
 /// Of the plans that are small enough, one in so many is listed: listing is slow.
 const LISTED_ONE_IN: u64 = 12;
+/// So many passes are made one by one; what takes more is not followed to its end.
+const MOST_PASSES: u64 = 300;
 /// Steps tried on a listed plan.
 const LISTED_STEPS: i64 = 6;
 
@@ -48,6 +50,7 @@ impl Comparison {
         let plan = file::read(file);
         self.tally.plans += 1;
         self.tally.banded += u64::from(plan.as_ref().is_ok_and(|plan| !plan.bands.is_empty()));
+        // What the calls that take an output leave: settling's first.
         let mut writing = Vec::new();
         for call in calls(&plan) {
             let expected = Expected::of(call, &plan, self.fault);
@@ -58,6 +61,7 @@ impl Comparison {
                 writing.push(expected);
             }
         }
+        self.by_passes(file, &writing[0])?;
         let expected = &writing[random.place(writing.len())];
         self.other_buffers(file, expected, random)?;
         match plan {
@@ -66,6 +70,34 @@ impl Comparison {
             }
             _ => Ok(()),
         }
+    }
+
+    /// The engine's passes, each on the output of the one before, until one changes nothing or is refused: that is settling, the last pass
+    /// counted too.
+    fn by_passes(&mut self, file: &[u8], settled: &Expected) -> Result<(), Difference> {
+        self.tally.count(Kind::Passes);
+        let mut before = file.to_vec();
+        let mut after = before.clone();
+        for passes in 1..=MOST_PASSES {
+            let answer = self.engine.call(Call::Pass, &before, &mut after, 0);
+            let (ended, written) = match answer.number() {
+                0 if after == before => (Answer::done(passes), Some(&after)),
+                0 => {
+                    std::mem::swap(&mut before, &mut after);
+                    continue;
+                }
+                _ => (answer, None),
+            };
+            if ended == settled.answer && written == settled.written.as_ref() {
+                return Ok(());
+            }
+            return Err(not_settling(file, &ended.words(Call::Settle), settled));
+        }
+        if settled.answer.is_beyond(MOST_PASSES) {
+            return Ok(());
+        }
+        let unsettled = format!("not settled after {MOST_PASSES} passes");
+        Err(not_settling(file, &unsettled, settled))
     }
 
     /// A longer buffer, and a shorter one.
@@ -154,9 +186,10 @@ impl Comparison {
         let count = allowed::count(plan).expect("the plan was read");
         let mut before = file.to_vec();
         for _ in 0..LISTED_STEPS {
-            let step = match random.within(0, 4) {
+            let step = match random.within(0, 5) {
                 0 => Call::Settle,
                 1 => Call::Balance,
+                2 => Call::Pass,
                 _ => Call::Step(random.place(plan.resources.len())),
             };
             let mut after = vec![0; before.len()];
@@ -187,9 +220,23 @@ fn calls(plan: &Result<Plan, Refusal>) -> impl Iterator<Item = Call> {
     let places = plan.as_ref().map_or(0, |plan| plan.resources.len());
     let beyond = [1 << 32, usize::MAX];
     let steps = (0..=places).chain(beyond).map(Call::Step);
-    [Call::Settle, Call::Check, Call::Balance]
+    [Call::Settle, Call::Check, Call::Balance, Call::Pass]
         .into_iter()
         .chain(steps)
+}
+
+/// Passes one by one that come to something else than settling.
+fn not_settling(file: &[u8], ended: &str, settled: &Expected) -> Difference {
+    let said = settled.answer.words(Call::Settle);
+    let outputs = if ended == said {
+        ", with another output"
+    } else {
+        ""
+    };
+    Difference {
+        file: file.to_vec(),
+        text: format!("the engine's passes, one by one: {ended}{outputs}; settling: {said}\n"),
+    }
 }
 
 /// A step that changed the number of allowed plans; none are left of an output that is no plan.

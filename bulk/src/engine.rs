@@ -10,6 +10,7 @@ pub enum Call {
     Settle,
     Check,
     Balance,
+    Pass,
     /// The resource step for the resource at this place.
     Step(usize),
 }
@@ -21,8 +22,8 @@ impl Call {
     }
 }
 
-/// What a call answers: "the refusal number times 2^32 plus the place, or, where the refusal number is 0, the pass count (0 for a call
-/// that makes no pass)".
+/// What a call answers: "the refusal number times 2^32 plus the place, or, where the refusal number is 0, the pass count of settling (0
+/// for every other call)".
 #[derive(Clone, Copy, Debug, PartialEq, Eq)]
 pub struct Answer(u64);
 
@@ -41,6 +42,11 @@ impl Answer {
     /// The refusal number, 0 if it is none.
     pub fn number(self) -> u32 {
         (self.0 >> PLACE_BITS) as u32
+    }
+
+    /// Whether this is a refusal, or more passes than so many.
+    pub fn is_beyond(self, passes: u64) -> bool {
+        self.0 > passes
     }
 
     fn place_or_passes(self) -> u32 {
@@ -106,6 +112,7 @@ mod linked {
             out: *mut u8,
             out_len: usize,
         ) -> u64;
+        fn gristwaltz_pass(file: *const u8, file_len: usize, out: *mut u8, out_len: usize) -> u64;
         fn gristwaltz_resource_step(
             file: *const u8,
             file_len: usize,
@@ -124,6 +131,7 @@ mod linked {
                 Call::Settle => gristwaltz_settle(from, length, to, room),
                 Call::Check => gristwaltz_check(from, length),
                 Call::Balance => gristwaltz_balance(from, length, to, room),
+                Call::Pass => gristwaltz_pass(from, length, to, room),
                 Call::Step(place) => gristwaltz_resource_step(from, length, place, to, room),
             }
         }
@@ -162,6 +170,7 @@ impl Caller {
             Call::Check => (1, 0),
             Call::Balance => (2, 0),
             Call::Step(place) => (3, place),
+            Call::Pass => (4, 0),
         };
         let mut request = Vec::new();
         for part in [number, place, file.len(), memory.len(), margin] {

@@ -19,6 +19,7 @@ impl Expected {
                 Call::Settle => steps::settle(&mut plan, fault)?,
                 Call::Check => 0,
                 Call::Balance => steps::balance(&mut plan).map(|()| 0)?,
+                Call::Pass => steps::pass(&mut plan, fault).map(|()| 0)?,
                 Call::Step(place) => steps::resource_step(&mut plan, place, fault).map(|()| 0)?,
             };
             Ok((passes, plan))

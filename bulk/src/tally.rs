@@ -9,23 +9,30 @@ pub enum Kind {
     Settle,
     Check,
     Balance,
+    Pass,
     Step,
+    Passes,
     LongerBuffer,
     ShorterBuffer,
     Listing,
 }
 
 /// Every kind with its line in the report.
-const LINES: [(Kind, &str); 7] = [
+const LINES: [(Kind, &str); 9] = [
     (
         Kind::Settle,
         "settle: answer, place or passes, whole output",
     ),
     (Kind::Check, "check"),
     (Kind::Balance, "balance"),
+    (Kind::Pass, "pass"),
     (
         Kind::Step,
         "resource step, one for each resource and three beyond",
+    ),
+    (
+        Kind::Passes,
+        "passes until one changes nothing: settle's answer and output",
     ),
     (
         Kind::LongerBuffer,
@@ -65,6 +72,7 @@ impl Tally {
             Call::Settle => Kind::Settle,
             Call::Check => Kind::Check,
             Call::Balance => Kind::Balance,
+            Call::Pass => Kind::Pass,
             Call::Step(_) => Kind::Step,
         });
         if call == Call::Settle {

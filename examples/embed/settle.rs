@@ -1,4 +1,4 @@
-// Settles case 9 of the page from Rust, then a plan that has none: its output buffer has to be as it was.
+// Settles case 9 of the page from Rust, by one call and pass by pass, then a plan that has none: its output buffer has to be as it was.
 // Built and run by tests/40-embed; by hand: rustc examples/embed/settle.rs -C link-arg="$(tools/archive)" -o /tmp/embed && /tmp/embed, in the repository
 
 // What libgristwaltz.a exports; a byte slice is a pointer and a length.
@@ -6,6 +6,7 @@ mod engine {
     extern "C" {
         fn gristwaltz_settle(file: *const u8, file_len: usize, out: *mut u8, out_len: usize) -> u64;
         fn gristwaltz_check(file: *const u8, file_len: usize) -> u64;
+        fn gristwaltz_pass(file: *const u8, file_len: usize, out: *mut u8, out_len: usize) -> u64;
     }
 
     #[derive(Debug, PartialEq)]
@@ -24,6 +25,11 @@ mod engine {
     /// Settles the plan of `file`; on success the settled plan's file is the front of `out`, on a refusal `out` is as it was.
     pub fn settle(file: &[u8], out: &mut [u8]) -> Answer {
         answer(unsafe { gristwaltz_settle(file.as_ptr(), file.len(), out.as_mut_ptr(), out.len()) })
+    }
+
+    /// One pass over the plan of `file`: `Done(0)`, since only settling reports a pass count.
+    pub fn pass(file: &[u8], out: &mut [u8]) -> Answer {
+        answer(unsafe { gristwaltz_pass(file.as_ptr(), file.len(), out.as_mut_ptr(), out.len()) })
     }
 
     pub fn check(file: &[u8]) -> Answer {
@@ -50,12 +56,29 @@ fn plan(sense: u8, resources: &[(i32, i32)], tasks: &[(u16, [i32; 8])]) -> Vec<u
     file
 }
 
+/// Passes one by one until one changes nothing, as a host does that cuts off long calls: `file` holds what is left, however far it got. The
+/// number of passes, the last one counted too, or the refusal.
+fn settle_by_passes(file: &mut Vec<u8>) -> engine::Answer {
+    for passes in 1.. {
+        let mut out = file.clone();
+        match engine::pass(file, &mut out) {
+            engine::Answer::Done(_) if out == *file => return engine::Answer::Done(passes),
+            engine::Answer::Done(_) => *file = out,
+            refused => return refused,
+        }
+    }
+    unreachable!()
+}
+
 fn main() {
     let case_nine = plan(1, &[(7, 4), (9, 3)], &[(1, [1, 2, 2, 2, 3, 4, 0, 1]), (3, [0, 6, 2, 2, 2, 8, 0, 4])]);
     let mut out = vec![0; case_nine.len()];
     println!("case 9: {:?}", engine::settle(&case_nine, &mut out));
     let settled = plan(1, &[(7, 4), (9, 3)], &[(1, [1, 2, 2, 2, 3, 4, 0, 1]), (1, [1, 2, 2, 2, 3, 4, 3, 4])]);
     println!("the settled plan is {}", if out == settled { "the page's" } else { "another" });
+    let mut left = case_nine.clone();
+    println!("case 9 by passes: {:?}", settle_by_passes(&mut left));
+    println!("the plan that is left is {}", if left == settled { "the page's" } else { "another" });
 
     let without_plan = plan(1, &[(7, 0)], &[(1, [5, 5, 1, 1, 6, 6, -1, -1])]);
     let mut out = vec![0xa5; 100];

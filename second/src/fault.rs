@@ -1,4 +1,4 @@
-//! The "Errors that look right" of document 01, and errors of the bands, each to be planted alone.
+//! The "Errors that look right" of document 01, errors of the bands and one of the pass, each to be planted alone.
 
 /// A planted error. The rules without one take `None`.
 #[derive(Clone, Copy, Debug, PartialEq, Eq)]
@@ -25,6 +25,9 @@ pub enum Fault {
     BandDayLate,
     /// The RS limit forgotten: a resource's first band is taken before its first day too.
     FirstBandAlways,
+    /// The call of one pass takes the resources from the last to the first. Settling's passes stay right: no comparison but that of a pass
+    /// by itself sees this error.
+    PassBackwards,
 }
 
 /// Every fault with the name the command line knows it by.
@@ -37,6 +40,7 @@ pub const FAULTS: &[(&str, Fault)] = &[
     ("own-never-added", Fault::OwnNeverAdded),
     ("band-day-late", Fault::BandDayLate),
     ("first-band-always", Fault::FirstBandAlways),
+    ("pass-backwards", Fault::PassBackwards),
 ];
 
 pub fn names() -> Vec<&'static str> {

@@ -56,16 +56,29 @@ fn stepped(plan: &Plan, place: usize, fault: Option<Fault>) -> Result<Vec<Task>,
     }
 }
 
-/// "Pass: balance, then the resource step for each resource in list order."
+/// One pass by itself, as a call.
 pub fn pass(plan: &mut Plan, fault: Option<Fault>) -> Result<(), Refusal> {
     entry::check(plan)?;
+    let places = 0..plan.resources.len();
+    plan.tasks = match fault {
+        Some(Fault::PassBackwards) => passed(plan, places.rev(), fault)?,
+        _ => passed(plan, places, fault)?,
+    };
+    Ok(())
+}
+
+/// "Pass: balance, then the resource step for each resource in list order."
+fn passed(
+    plan: &Plan,
+    places: impl Iterator<Item = usize>,
+    fault: Option<Fault>,
+) -> Result<Vec<Task>, Refusal> {
     let mut passed = plan.clone();
     passed.tasks = balanced(&passed.tasks)?;
-    for place in 0..passed.resources.len() {
+    for place in places {
         passed.tasks = stepped(&passed, place, fault)?;
     }
-    *plan = passed;
-    Ok(())
+    Ok(passed.tasks)
 }
 
 /// "Settling: passes until one changes nothing. The pass count includes that
@@ -75,12 +88,12 @@ pub fn settle(plan: &mut Plan, fault: Option<Fault>) -> Result<u64, Refusal> {
     let mut settled = plan.clone();
     let mut passes = 0;
     loop {
-        let before = settled.clone();
-        pass(&mut settled, fault)?;
+        let after = passed(&settled, 0..settled.resources.len(), fault)?;
         passes += 1;
-        if settled == before {
+        if after == settled.tasks {
             *plan = settled;
             return Ok(passes);
         }
+        settled.tasks = after;
     }
 }

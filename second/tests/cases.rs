@@ -2,7 +2,7 @@
 
 mod support;
 
-use second::steps::settle;
+use second::steps::{pass, settle};
 use second::{allowed, file, program, Plan, Refusal, Resource, Sense};
 use support::*;
 
@@ -97,6 +97,19 @@ fn case_9() -> Plan {
 fn case_9_six_allowed_plans_before_and_after() {
     assert_eq!(allowed::count(&case_9()), Ok(6));
     assert_eq!(allowed::count(&settles(case_9(), 3)), Ok(6));
+}
+
+/// By hand. First pass: on day 2, where task 0 is sure, task 1 is needed on the first resource. Second: task 1 is sure there, so its height is
+/// at least 4 - 1. Third: nothing.
+#[test]
+fn case_9_pass_by_pass() {
+    let needed = wide(1, to(1, 2), to(2, 2), to(3, 4), to(0, 4));
+    let lifted = wide(1, to(1, 2), to(2, 2), to(3, 4), to(3, 4));
+    let mut plan = case_9();
+    for task in [needed, lifted.clone(), lifted] {
+        assert_eq!(pass(&mut plan, None), Ok(()));
+        assert_eq!(plan.tasks, [case_9().tasks[0].clone(), task]);
+    }
 }
 
 #[test]

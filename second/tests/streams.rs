@@ -8,7 +8,8 @@ use second::file::{self, read, read_with_room, write, Room};
 use second::make::{plan_file, stream};
 use second::program::{answer, READ_AT_MOST};
 use second::random::Random;
-use second::Refusal;
+use second::steps::pass;
+use second::{Fault, Plan, Refusal};
 use std::collections::BTreeMap;
 use support::small_plan;
 
@@ -118,6 +119,12 @@ fn a_stream_has_plans_with_bands_and_without() {
     assert!(changed > banded / 4 && settled > banded / 3, "{counts}");
 }
 
+/// The plan that one pass leaves of a file.
+fn passed(file: &[u8], fault: Option<Fault>) -> Result<Plan, Refusal> {
+    let mut plan = read(file)?;
+    pass(&mut plan, fault).map(|()| plan)
+}
+
 #[test]
 fn every_planted_fault_changes_answers() {
     let files: Vec<Vec<u8>> = (0..COUNT).map(|n| plan_file(SEED, n)).collect();
@@ -125,6 +132,18 @@ fn every_planted_fault_changes_answers() {
     for (name, fault) in FAULTS {
         let differs = |(file, said): &(&Vec<u8>, &String)| answer(file, Some(*fault)) != **said;
         let changed = files.iter().zip(&answers).filter(differs).count();
-        assert!(changed > 5, "{name}: {changed}");
+        if *fault == Fault::PassBackwards {
+            assert_eq!(changed, 0, "settling's passes go forwards");
+        } else {
+            assert!(changed > 5, "{name}: {changed}");
+        }
     }
+}
+
+#[test]
+fn a_pass_backwards_changes_passes() {
+    let differs = |file: &Vec<u8>| passed(file, Some(Fault::PassBackwards)) != passed(file, None);
+    let files = (0..COUNT).map(|n| plan_file(SEED, n));
+    let changed = files.filter(differs).count();
+    assert!(changed > 5, "{changed}");
 }

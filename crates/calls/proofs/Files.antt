@@ -1,9 +1,8 @@
--- A call on a plan file: refusal numbers are small, and each refusal in its turn.
+-- A call on a plan file: each refusal in its turn.
 use mathlib.Core.Path.{_≡_, refl, sym, ap, _∙_}
 use mathlib.Core.Bool.{true, false, not}
 use mathlib.Core.List.{List}
-use Prim.Native.Nat.{ℕ, _≤_}
-use native.Mathlib.Omega.{arith}
+use Prim.Native.Nat.{ℕ}
 use lib.IntN.{ℤ}
 use lib.ListN.{length, drop}
 use borrow.Author.Tests.{not-false}
@@ -11,11 +10,10 @@ use Rattle.plan.specs.declared.Call.{Call}
 use Rattle.plan.specs.declared.Checked.{Checked}
 use Rattle.plan.specs.declared.Checked.the-variants.{Accepted}
 use Rattle.plan.specs.declared.Refusal.{Refusal}
-use Rattle.plan.specs.declared.Refusal.the-variants.{TooManyTasks, ResourceCount, RepeatedIdentifier, LimitOutside, RangeOutside, SetOutside, NoPlan, WrongMark, CutShort, BufferShort, ListShort, NoSuchResource, BandOutside}
+use Rattle.plan.specs.declared.Refusal.the-variants.{NoSuchResource}
 use Rattle.plan.specs.declared.Answer.{Answer}
 use Rattle.plan.specs.declared.Sense.{Sense}
 use Rattle.plan.specs.declared.Task.{Task}
-use Rattle.plan.specs.Refusals.{number}
 use Rattle.plan.specs.Tasks.{mostBands}
 use Rattle.rules.specs.Frame.{Frame, resourceCount}
 use Rattle.rules.specs.Calls.{placedIn, callOf, resultOf}
@@ -29,23 +27,8 @@ use Rattle.format.specs.Reading.{Read, bodyDue, readBody, readAfter}
 use Rattle.format.specs.Writing.{written, roomFor}
 use Rattle.format.proofs.Files.{rows-written}
 use Rattle.runs.proofs.Rooms.{no-bands}
-use Rattle.calls.specs.Rows.{Unbanded}
-use Rattle.calls.specs.Files.{answerFile, afterRead, lentDue, planCall, planFile, refusedFile, RowsAnswered, HeaderAnswered}
-
-pub number-small : (f : Refusal) → number f ≤ 13
-number-small TooManyTasks = omega arith
-number-small ResourceCount = omega arith
-number-small (RepeatedIdentifier k) = omega arith
-number-small (LimitOutside k) = omega arith
-number-small (RangeOutside k) = omega arith
-number-small (SetOutside k) = omega arith
-number-small NoPlan = omega arith
-number-small (WrongMark k) = omega arith
-number-small (CutShort k) = omega arith
-number-small BufferShort = omega arith
-number-small ListShort = omega arith
-number-small NoSuchResource = omega arith
-number-small (BandOutside k) = omega arith
+use Rattle.calls.specs.Rows.{Unbanded, RowsAnswered, HeaderAnswered}
+use Rattle.answers.specs.Files.{answerFile, afterRead, lentDue, planCall, planFile, refusedFile}
 
 -- ---- each refusal in its turn
 pub lent-is : (c : Call) (resources file out : ℕ) → lentDue c resources file out ≡ Accepted → (placedIn resources c ≡ true) × (roomFor file out ≡ Accepted)

@@ -1,3 +1,2 @@
--- Laws of calls on plan files, and of the numbers that they answer.
+-- Laws of calls on plan files.
 pub mod Files
-pub mod Answers

@@ -1,3 +1,2 @@
--- What the calls on plan files in memory answer and leave, and for how many tasks they lend rows.
-pub mod Files
+-- For how many tasks the calls on plan files lend rows.
 pub mod Rows

@@ -30,7 +30,7 @@ use Rattle.format.specs.Reading.{due}
 use Rattle.format.proofs.Records.{due-is}
 use Rattle.cursor.specs.declared.Cursor.{Cursor}
 use Rattle.cursor.specs.declared.Record.{Record}
-use Rattle.cursor.specs.Handed.{cursor, recordIn, recordOf, standing, handed, recordAt, sameMark, notDue}
+use Rattle.cursor.specs.Handed.{cursor, recordIn, recordOf, standing, handed, recordAt, pastIn, sameMark, notDue}
 
 -- ---- the rest of a file from a place on, as the code lends it; past the end there is none
 pub rest-is : (file : List ℕ) (at : ℕ) → take (length file - at) (drop at file) ≡ drop at file
@@ -53,7 +53,7 @@ pairs-same bs k m =
     (eqb-true (getD bs 0 0) (getD (mark k) 0 0) (and-first s t m), eqb-true (getD bs 1 0) (getD (mark k) 1 0) (and-second s t m))
 
 -- where one mark stands, another does if it is the same
-stands : (j k : Mark) (bs : List ℕ) → marked j bs ≡ true → marked k bs ≡ sameMark j k
+pub stands : (j k : Mark) (bs : List ℕ) → marked j bs ≡ true → marked k bs ≡ sameMark j k
 unfolding marked
 stands j k bs m = let p = pairs-same bs j m in rw (p .0, p .1)
 
@@ -145,10 +145,17 @@ module _ (k : Mark) (at : ℕ) (bs : List ℕ) where
       (λ m. rw (e, m) (sym (ap (asDue k at) (handed-marked k at bs (ltb-false (length bs) markSize e) m) ∙ own)))
       (λ m. rw (e, m) (sym (wrong e m))))
 
-  whole-handed : due k at bs ≡ Accepted → handed at bs ≡ recordIn k at bs
+  pub whole-handed : due k at bs ≡ Accepted → handed at bs ≡ recordIn k at bs
   whole-handed d =
       let w = due-is k at bs d in
       handed-marked k at bs (omega (arith, w .whole)) (w .begins) ∙ whole-record k at bs (w .whole)
+
+-- the place past a whole record
+pub past-whole : (k : Mark) (at : ℕ) (bs : List ℕ) → pastIn at (recordIn k at bs) ≡ at + size k
+past-whole PL at bs = refl
+past-whole RS at bs = refl
+past-whole LB at bs = refl
+past-whole TK at bs = refl
 
 -- ---- an answer that is not the record due, told from its place among the answers
 -- the place of the answer that holds a mark's record
@@ -203,14 +210,24 @@ wrong-mark k at (Record.CutShort j) ks a b o = absurd (miss ks 4 a o)
 wrong-mark k at Record.NoMark ks a b o = refl
 wrong-mark k at Record.Ended ks a b o = absurd (miss ks 6 b o)
 
+-- every answer but a whole record leaves the place
+pub stays-there : (at : ℕ) (r : Record) (ks : List ℕ) → T (not (hasKey ks 0)) → T (not (hasKey ks 1)) → T (not (hasKey ks 2)) → T (not (hasKey ks 3)) → OneOf ks (tagOf r) → at ≡ pastIn at r
+stays-there at (Record.Plan h x) ks a b c d o = absurd (miss ks 0 a o)
+stays-there at (Record.Resource q x) ks a b c d o = absurd (miss ks 1 b o)
+stays-there at (Record.Band y x) ks a b c d o = absurd (miss ks 2 c o)
+stays-there at (Record.Task t x) ks a b c d o = absurd (miss ks 3 d o)
+stays-there at (Record.CutShort k) ks a b c d o = refl
+stays-there at Record.NoMark ks a b c d o = refl
+stays-there at Record.Ended ks a b c d o = refl
+
 -- ---- an answer taken, and an answer refused
 module _ (at : ℕ) (bs : List ℕ) {r : Record} (e : r ≡ handed at bs) where
   taken : (k : Mark) → asDue k at r ≡ Accepted → (due k at bs ≡ Accepted) × (r ≡ recordIn k at bs)
   taken k a = let d = due-handed k at bs ∙ ap (asDue k at) (sym e) ∙ a in (d, e ∙ whole-handed k at bs d)
 
-  pub plan-taken : {h : Header} {c : Cursor} → r ≡ Record.Plan h c → (due PL at bs ≡ Accepted) × (h ≡ headerFrom (numbersIn PL bs))
+  pub plan-taken : {h : Header} {c : Cursor} → r ≡ Record.Plan h c → (due PL at bs ≡ Accepted) × (h ≡ headerFrom (numbersIn PL bs)) × (c .at ≡ at + size PL)
   unfolding marked
-  plan-taken g = let w = taken PL (ap (asDue PL at) g) in let x = sym g ∙ w .1 in (w .0, cc)
+  plan-taken {c} g = let w = taken PL (ap (asDue PL at) g) in let x = sym g ∙ w .1 in let e : c ≡ cursor (at + size PL) = cc in (w .0, cc, ap (λ (y : Cursor). y .at) e)
 
   pub resource-taken : {q : Resource} {c : Cursor} → r ≡ Record.Resource q c → (due RS at bs ≡ Accepted) × (q ≡ resourceFrom (numbersIn RS bs)) × (c .at ≡ at + size RS)
   unfolding marked

@@ -39,6 +39,20 @@ handed at bs =
 unfoldable pub recordAt : List ℕ → ℕ → Record
 recordAt file at = handed at (drop at file)
 
+-- the place past a record that is handed out at a place; where no whole one is, the place itself
+abbrev pub pastIn : ℕ → Record → ℕ
+pastIn at (Record.Plan h c) = c .at
+pastIn at (Record.Resource q c) = c .at
+pastIn at (Record.Band b c) = c .at
+pastIn at (Record.Task t c) = c .at
+pastIn at (Record.CutShort k) = at
+pastIn at Record.NoMark = at
+pastIn at Record.Ended = at
+
+-- past what stands at a place: where the next record is looked for
+unfoldable pub pastAt : List ℕ → ℕ → ℕ
+pastAt file at = pastIn at (recordAt file at)
+
 abbrev pub sameMark : Mark → Mark → Bool
 sameMark j k = marked k (mark j)
 

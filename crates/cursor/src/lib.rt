@@ -8,7 +8,7 @@ ghost use lib.ListN.{length, drop};
 ghost use Rattle.integers.specs.Tests.{if};
 ghost use Rattle.format.specs.declared.Mark.the-variants.{PL, RS, LB, TK};
 ghost use Rattle.format.specs.Format.{markSize, marked, size, numbersIn, headerFrom, resourceFrom, bandFrom, taskFrom};
-ghost use Rattle.cursor.specs.Handed.{recordOf, standing, handed, recordAt, sameMark, notDue};
+ghost use Rattle.cursor.specs.Handed.{recordOf, standing, handed, recordAt, pastAt, sameMark, notDue};
 use format::Header;
 use format::Mark;
 use format::fields::cell_at;
@@ -234,6 +234,20 @@ impl Cursor {
             }
         }
         self.next(file)
+    }
+
+    // The place past that record; where no whole one stands, the cursor's own.
+    pub fn past(self, file: &[u8]) -> usize
+        ensures { λ r. ⌜ r ≡ pastAt (now (file .entry)) (self .at) ⌝ }
+    {
+        let got = self.next(file);
+        match got {
+            Record::Plan(_, c) => c.at,
+            Record::Resource(_, c) => c.at,
+            Record::Band(_, c) => c.at,
+            Record::Task(_, c) => c.at,
+            _ => self.at,
+        }
     }
 
     // Whether such a mark stands at the cursor: how a run without a count is told from what follows it.

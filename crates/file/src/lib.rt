@@ -1,6 +1,7 @@
-// A plan file read into rows of resources, bands and tasks, the cursor's records in the order that they are due, and written from them.
+// A plan file read into rows of resources, bands and tasks, the reader's records in the order that they are due, and written from them.
 ghost use mathlib.Core.Path.{_≡_};
-ghost use Prim.Native.Nat.{_≤_, _<_, _^_, min};
+ghost use mathlib.Core.List.{List};
+ghost use Prim.Native.Nat.{ℕ, _≤_, _<_, _^_, min};
 ghost use lib.ListN.{length};
 ghost use Rattle.plan.specs.Tasks.{mostResources, mostBands, mostTasks};
 ghost use Rattle.rows.specs.View.{tasksOf, resourcesOf, frameOf};
@@ -9,6 +10,7 @@ ghost use Rattle.format.specs.Format.{size, resources, tasks, tasksFrom};
 ghost use Rattle.format.specs.Reading.{ReadRun, headerDue, listsDue, runUnless, readHeader, readBody, readAfter, lentAfter, readLent, headerPlan, readThrough, RunWithin, answerPlan, AnswerWithin};
 ghost use Rattle.format.specs.declared.HeaderAnswer.{HeaderAnswer};
 ghost use Rattle.format.specs.Writing.{writeResult, writeCall};
+ghost use Rattle.cursor.specs.Handed.{recordAt};
 use cursor::Cursor;
 use cursor::Record;
 use cursor::not_due;
@@ -48,12 +50,10 @@ fn check_header(h: Header) -> Checked
     Checked::Accepted
 }
 
-// What the PL record holds, read once and handed on.
-pub fn read_header(file: &[u8]) -> HeaderAnswer
-    ensures { λ r. ⌜ r ≡ readHeader (now (file .entry)) ⌝ }
+// What the PL record holds, from the record that stands at the start of a file.
+fn header_in(got: Record) -> HeaderAnswer
+    ensures { λ r. ⌜ ((file : List ℕ) → got ≡ recordAt file 0 → r ≡ readHeader file) ⌝ }
 {
-    let start = Cursor { at: 0 };
-    let got = start.next(file);
     let Record::Plan(h, _) = got else {
         return HeaderAnswer::Refused(not_due(Mark::PL, 0, got));
     };
@@ -62,6 +62,15 @@ pub fn read_header(file: &[u8]) -> HeaderAnswer
         Checked::Refused(f) => HeaderAnswer::Refused(f),
         Checked::Accepted => HeaderAnswer::Counts(h),
     }
+}
+
+// The PL record, read once and handed on.
+pub fn read_header(file: &[u8]) -> HeaderAnswer
+    ensures { λ r. ⌜ r ≡ readHeader (now (file .entry)) ⌝ }
+{
+    let r = reader::start(file);
+    let got = reader::next(r);
+    header_in(got)
 }
 
 // All RS, one after another, and the rows they make; behind so many bands, all TK.
@@ -73,7 +82,7 @@ fn read_resources(file: &[u8], h: Header, q: &mut [ResourceRow]) -> Checked
     let mut i: usize = 0;
     while i < h.resources {
         let at = c.at;
-        let got = c.next_due(Mark::RS, file);
+        let got = reader::next_due_at(file, c, Mark::RS);
         let Record::Resource(r, past) = got else {
             return Checked::Refused(not_due(Mark::RS, at, got));
         };
@@ -94,7 +103,7 @@ fn read_tasks(file: &[u8], h: Header, bands: usize, s: &mut [TaskRow]) -> Checke
     let mut i: usize = 0;
     while i < h.tasks {
         let at = c.at;
-        let got = c.next_due(Mark::TK, file);
+        let got = reader::next_due_at(file, c, Mark::TK);
         let Record::Task(t, past) = got else {
             return Checked::Refused(not_due(Mark::TK, at, got));
         };

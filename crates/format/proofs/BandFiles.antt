@@ -1,4 +1,4 @@
--- Files with bands, each with its answer as worked out by hand: read, or refused with 9, 11 or 13, computed.
+-- Files, with bands and without, each with its answer as worked out by hand: read, or refused with 1, 2, 8, 9, 11 or 13, computed.
 use mathlib.Core.Path.{_≡_, refl}
 use mathlib.Core.List.{List, [], _∷_, _++_}
 use Prim.Native.Nat.{ℕ, zero, suc}
@@ -10,7 +10,7 @@ use Rattle.plan.specs.declared.Band.{Band}
 use Rattle.plan.specs.declared.Resource.{Resource}
 use Rattle.plan.specs.declared.Task.{Task}
 use Rattle.plan.specs.declared.Sense.the-variants.{AtLeast}
-use Rattle.plan.specs.declared.Refusal.the-variants.{CutShort, ListShort, BandOutside}
+use Rattle.plan.specs.declared.Refusal.the-variants.{CutShort, ListShort, BandOutside, TooManyTasks, ResourceCount, WrongMark}
 use Rattle.plan.specs.Days.{day}
 use Rattle.plan.specs.Powers.{power}
 use Rattle.plan.specs.Tasks.{noTask}
@@ -66,6 +66,24 @@ answers =
     ∷ readLent 1 2 0 (file (band 0 (negsuc 2147483647) (pos 0) ∷ []))
     -- a band behind the tasks is left over
     ∷ readLent 1 2 1 (written (plain AtLeast one) (placed ∷ []) ++ recordsBytes bands (daily 0 1))
+    -- nothing; one byte; another mark, cut short; a PL cut short whose sense is 2
+    ∷ readLent 9 0 0 []
+    ∷ readLent 9 0 0 (80 ∷ [])
+    ∷ readLent 9 0 0 (80 ∷ 75 ∷ [])
+    ∷ readLent 9 0 0 (80 ∷ 76 ∷ 2 ∷ 0 ∷ 1 ∷ [])
+    -- sense 2, no resource, 257 tasks; the same of sense 1; no resource; 17; more resources than the list has places; more tasks
+    ∷ readLent 0 0 0 (80 ∷ 76 ∷ 2 ∷ 0 ∷ 1 ∷ 1 ∷ [])
+    ∷ readLent 0 0 0 (80 ∷ 76 ∷ 1 ∷ 0 ∷ 1 ∷ 1 ∷ [])
+    ∷ readLent 0 0 0 (80 ∷ 76 ∷ 1 ∷ 0 ∷ 0 ∷ 0 ∷ [])
+    ∷ readLent 0 0 0 (80 ∷ 76 ∷ 1 ∷ 17 ∷ 0 ∷ 0 ∷ [])
+    ∷ readLent 0 0 0 (80 ∷ 76 ∷ 1 ∷ 1 ∷ 0 ∷ 0 ∷ [])
+    ∷ readLent 1 0 0 (80 ∷ 76 ∷ 1 ∷ 1 ∷ 1 ∷ 0 ∷ [])
+    -- the resource is not there; its mark is another; it is cut short
+    ∷ readLent 1 0 0 (80 ∷ 76 ∷ 1 ∷ 1 ∷ 0 ∷ 0 ∷ [])
+    ∷ readLent 1 0 0 (80 ∷ 76 ∷ 1 ∷ 1 ∷ 0 ∷ 0 ∷ 84 ∷ 75 ∷ [])
+    ∷ readLent 1 0 0 (80 ∷ 76 ∷ 1 ∷ 1 ∷ 0 ∷ 0 ∷ 82 ∷ 83 ∷ [])
+    -- a band byte by byte: place 0, from day 3 on, limit 5
+    ∷ readLent 1 1 0 (80 ∷ 76 ∷ 1 ∷ 1 ∷ 0 ∷ 0 ∷ 82 ∷ 83 ∷ 7 ∷ 0 ∷ 0 ∷ 0 ∷ 0 ∷ 0 ∷ 0 ∷ 0 ∷ 76 ∷ 66 ∷ 0 ∷ 0 ∷ 3 ∷ 0 ∷ 0 ∷ 0 ∷ 5 ∷ 0 ∷ 0 ∷ 0 ∷ [])
     ∷ []
 
 abbrev printed : List Read
@@ -86,6 +104,20 @@ printed =
     ∷ Read.Plan (framed AtLeast one (band 0 (negsuc 99999) (negsuc 999999) ∷ band 0 (pos 100000) (pos 1000000) ∷ [])) []
     ∷ Read.Refuse (BandOutside 0)
     ∷ Read.Refuse (CutShort 52)
+    ∷ Read.Refuse (CutShort 0)
+    ∷ Read.Refuse (CutShort 0)
+    ∷ Read.Refuse (WrongMark 0)
+    ∷ Read.Refuse (CutShort 0)
+    ∷ Read.Refuse (WrongMark 0)
+    ∷ Read.Refuse TooManyTasks
+    ∷ Read.Refuse ResourceCount
+    ∷ Read.Refuse ResourceCount
+    ∷ Read.Refuse ListShort
+    ∷ Read.Refuse ListShort
+    ∷ Read.Refuse (CutShort 6)
+    ∷ Read.Refuse (WrongMark 6)
+    ∷ Read.Refuse (CutShort 6)
+    ∷ Read.Plan (framed AtLeast one (band 0 (pos 3) (pos 5) ∷ [])) []
     ∷ []
 
 pub band-files : answers ≡ printed

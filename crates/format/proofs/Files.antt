@@ -31,7 +31,8 @@ use Rattle.format.specs.declared.HeaderAnswer.{HeaderAnswer}
 use Rattle.format.specs.Format.{resources, bands, tasks, size, widths, recordBytes, fieldsIn, numbersIn, headerNumbers, headerFrom, senseNumber, senseFrom, taskMark, bandsFrom, tasksFrom, fileLength}
 use Rattle.format.specs.Writing.{recordsBytes, headerOf, written, Identified}
 use Rattle.format.specs.Reading.{due, headerIn, headerDue, bandsDue, bandCount, bandsIn, lookedAt, frameIn, tasksIn, bodyDue, fileEnd, runDue, runIn, Read, readUnless, readChecked, headerUnless, planAfter, readHeader, readBody, readAfter, readPlan, headerPlan}
-use Rattle.format.proofs.Numbers.{Byte, beyond, bytes-drop}
+use Rattle.format.proofs.Numbers.{beyond, bytes-drop}
+use Rattle.format.specs.Numbers.{Byte}
 use Rattle.format.proofs.Stores.{sets-append}
 use Rattle.format.proofs.Records.{unrefused, Held, none, more, length-record, record-read, record-due, due-is, record-written, length-records, records-back, records-written, length-in}
 use Rattle.format.proofs.Layouts.{resources-lawful, resource-identified, bands-lawful, tasks-lawful, resources-small, bands-small, tasks-small}

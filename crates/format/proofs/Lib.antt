@@ -7,5 +7,6 @@ pub mod Bands
 pub mod Runs
 pub mod Files
 pub mod RoundTrip
+pub mod CallTrips
 pub mod BandFiles
 pub mod Refusing

@@ -13,12 +13,9 @@ use mir.Facts.{toZ-ofZ, sfits-widen}
 use Rattle.integers.specs.Lists.{Each}
 use Rattle.integers.specs.Lists.Each.{nothing, also}
 use Rattle.integers.proofs.Lists.{each-first, each-last}
-use Rattle.format.specs.Numbers.{bytesOf, numberOf, numberAt}
+use Rattle.format.specs.Numbers.{Byte, bytesOf, numberOf, numberAt}
 
 -- ---- bytes
-abbrev pub Byte : ℕ → Type 0
-Byte b = b < 256
-
 both : (k : ℕ) {bs : List ℕ} → Each Byte bs → Each Byte (take k bs ++ drop k bs)
 both k {bs} h = subst (Each Byte) (sym (take-append-drop k bs)) h
 

@@ -20,11 +20,11 @@ use Rattle.rules.specs.Calls.{orElse, refuseIf}
 use Rattle.rules.proofs.Checks.{past, past-all}
 use Rattle.format.specs.declared.Mark.{Mark}
 use Rattle.format.specs.declared.Mark.the-variants.{PL, RS, LB, TK}
-use Rattle.format.specs.Numbers.{bytesOf, numberOf, numberAt}
+use Rattle.format.specs.Numbers.{bytesOf, numberOf, numberAt, Byte}
 use Rattle.format.specs.Format.{Layout, mark, markSize, marked, widths, total, size, fieldBytes, recordBytes, fieldsIn, numbersIn}
 use Rattle.format.specs.Writing.{recordsBytes}
 use Rattle.format.specs.Reading.{due, eachDue, recordsIn}
-use Rattle.format.proofs.Numbers.{Byte, beyond, length-bytes, number-bytes, bytes-number, number-small, bytes-drop, bytes-take}
+use Rattle.format.proofs.Numbers.{beyond, length-bytes, number-bytes, bytes-number, number-small, bytes-drop, bytes-take}
 use Rattle.format.proofs.Stores.{length-mark}
 
 -- ---- fields

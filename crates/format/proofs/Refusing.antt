@@ -1,6 +1,7 @@
 -- Every place that a refused file is given lies within the longest file: 10,150 bytes, for 16 resources, 64 bands and 256 tasks. The file may be of
 -- any length: a count above its most is refused before a record of the body is read, and a 65th band where it is met.
 use mathlib.Core.Path.{_≡_, refl, subst}
+use mathlib.Core.Logic.{_≢_}
 use mathlib.Core.Bool.{not}
 use mathlib.Core.List.{List}
 use Prim.Native.Nat.{ℕ, zero, suc, _+_, _*_, _≤_}
@@ -14,11 +15,11 @@ use Rattle.plan.specs.declared.Checked.{Checked}
 use Rattle.plan.specs.declared.Checked.the-variants.{Accepted, Refused}
 use Rattle.plan.specs.declared.Refusal.{Refusal}
 use Rattle.plan.specs.declared.Refusal.the-variants.{TooManyTasks, ResourceCount, WrongMark, CutShort, ListShort, BandOutside}
-use Rattle.plan.specs.Refusals.{place}
+use Rattle.plan.specs.Refusals.{number, place}
 use Rattle.plan.specs.Tasks.{mostResources, mostBands, mostTasks}
 use Rattle.rules.specs.Calls.{orElse, refuseIf, check}
 use Rattle.rules.proofs.Checks.{past-all}
-use Rattle.rules.proofs.Bounds.{PlacedTo, lastPlace, placed-then, placed-if, placed-unless, placed-more, check-placed}
+use Rattle.rules.proofs.Bounds.{PlaceIn, PlacedTo, lastPlace, placed-then, placed-if, placed-unless, placed-more, check-placed}
 use Rattle.format.specs.declared.Mark.{Mark}
 use Rattle.format.specs.declared.Mark.the-variants.{PL, LB}
 use Rattle.format.specs.declared.Header.{Header}
@@ -40,9 +41,9 @@ due-placed : (k : Mark) (at : ℕ) (bs : List ℕ) → at ≤ longestFile → Pl
 unfolding due
 due-placed k at bs l =
     let ends = refuseIf (ltb (length bs) (size k)) (CutShort at) in
-    placed-unless longestFile (ltb (length bs) markSize) (CutShort at) (orElse (refuseIf (not (marked k bs)) (WrongMark at)) ends) l λ e.
-    placed-unless longestFile (not (marked k bs)) (WrongMark at) ends l λ f.
-    placed-if longestFile (ltb (length bs) (size k)) (CutShort at) l
+    placed-unless longestFile (ltb (length bs) markSize) (CutShort at) (orElse (refuseIf (not (marked k bs)) (WrongMark at)) ends) (l, omega arith) λ e.
+    placed-unless longestFile (not (marked k bs)) (WrongMark at) ends (l, omega arith) λ f.
+    placed-if longestFile (ltb (length bs) (size k)) (CutShort at) (l, omega arith)
 
 each-placed : (k : Mark) (n at : ℕ) (bs : List ℕ) → at + n * size k ≤ longestFile → Placed (eachDue k n at bs)
 unfolding eachDue
@@ -57,7 +58,7 @@ unfolding bandDue
 band-placed room k at bs l m =
     let more = not (ltb k mostBands) in
     let none = not (ltb k room) in
-    placed-unless longestFile (ltb (length bs) (size LB)) (CutShort at) (orElse (refuseIf more (BandOutside k)) (refuseIf none ListShort)) l λ e.
+    placed-unless longestFile (ltb (length bs) (size LB)) (CutShort at) (orElse (refuseIf more (BandOutside k)) (refuseIf none ListShort)) (l, omega arith) λ e.
     placed-unless longestFile more (BandOutside k) (refuseIf none ListShort) (omega arith) λ f.
     placed-if longestFile none ListShort (omega arith)
 
@@ -102,7 +103,7 @@ body-placed room h file f =
 -- ---- what is read
 abbrev PlacedRead : Read → Type 0
 PlacedRead (Read.Plan f ts) = Unit {0}
-PlacedRead (Read.Refuse f) = place f ≤ longestFile
+PlacedRead (Read.Refuse f) = PlaceIn longestFile f
 
 unless-placed : (c : Checked) (x : Read) → Placed c → PlacedRead x → PlacedRead (readUnless c x)
 unless-placed Accepted x p q = q
@@ -134,13 +135,26 @@ module _ (file : List ℕ) (next : HeaderAnswer → Read) (refuses : (f : Refusa
       (λ e. q h (few h (past-all (due PL 0 file) (headerDue h) e .1)))
 
 -- any refusal of a file: 1 to 6, 8, 9 and 13, and by lists of so many places 11
-pub read-place : (file : List ℕ) (f : Refusal) → readPlan file ≡ Read.Refuse f → place f ≤ longestFile
+read-refused : (file : List ℕ) (f : Refusal) → readPlan file ≡ Read.Refuse f → PlaceIn longestFile f
 unfolding readPlan
-read-place file f e = subst PlacedRead e (file-placed file (planAfter file) (λ g. refl) (λ h w. after-placed mostBands h file w))
+read-refused file f e = subst PlacedRead e (file-placed file (planAfter file) (λ g. refl) (λ h w. after-placed mostBands h file w))
 
-pub lent-place : (places bandRoom room : ℕ) (file : List ℕ) (f : Refusal) → readLent places bandRoom room file ≡ Read.Refuse f → place f ≤ longestFile
+pub read-place : (file : List ℕ) (f : Refusal) → readPlan file ≡ Read.Refuse f → place f ≤ longestFile
+read-place file f e = read-refused file f e .0
+
+-- and none says "no plan"
+pub read-number : (file : List ℕ) (f : Refusal) → readPlan file ≡ Read.Refuse f → number f ≢ 7
+read-number file f e = read-refused file f e .1
+
+lent-refused : (places bandRoom room : ℕ) (file : List ℕ) (f : Refusal) → readLent places bandRoom room file ≡ Read.Refuse f → PlaceIn longestFile f
 unfolding readLent listsDue
-lent-place places bandRoom room file f e =
+lent-refused places bandRoom room file f e =
     subst PlacedRead e (file-placed file (lentAfter places bandRoom room file) (λ g. refl) λ h w.
     unless-placed (listsDue places room h) (readAfter bandRoom h file)
     (placed-if longestFile (or (ltb places (h .resources)) (ltb room (h .tasks))) ListShort (omega arith)) (after-placed bandRoom h file w))
+
+pub lent-place : (places bandRoom room : ℕ) (file : List ℕ) (f : Refusal) → readLent places bandRoom room file ≡ Read.Refuse f → place f ≤ longestFile
+lent-place places bandRoom room file f e = lent-refused places bandRoom room file f e .0
+
+pub lent-number : (places bandRoom room : ℕ) (file : List ℕ) (f : Refusal) → readLent places bandRoom room file ≡ Read.Refuse f → number f ≢ 7
+lent-number places bandRoom room file f e = lent-refused places bandRoom room file f e .1

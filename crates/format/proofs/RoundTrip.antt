@@ -10,7 +10,6 @@ use lib.ListN.{length, drop}
 use borrow.Author.Tests.{le-ltb, ltb-false}
 use Rattle.integers.specs.Tests.{or}
 use Rattle.integers.proofs.Tests.{or-none}
-use Rattle.integers.specs.Lists.{Each}
 use Rattle.plan.specs.declared.Task.{Task}
 use Rattle.plan.specs.declared.Resource.{Resource}
 use Rattle.plan.specs.declared.Sense.{Sense}
@@ -19,34 +18,29 @@ use Rattle.plan.specs.declared.Checked.the-variants.{Accepted, Refused}
 use Rattle.plan.specs.declared.Refusal.the-variants.{CutShort, ListShort}
 use Rattle.plan.specs.Tasks.{mostBands}
 use Rattle.rules.specs.Frame.{Frame, plain, resourceCount}
-use Rattle.rules.specs.Calls.{orElse, refuseIf, check}
+use Rattle.rules.specs.Calls.{orElse, refuseIf}
 use Rattle.rules.proofs.Checks.{past-all}
 use Rattle.format.specs.declared.Mark.the-variants.{PL}
 use Rattle.format.specs.declared.Header.{Header}
 use Rattle.format.specs.Format.{resources, tasks, size, recordBytes, headerNumbers, bandsFrom, tasksFrom}
-use Rattle.format.specs.Writing.{recordsBytes, headerOf, written, Identified}
+use Rattle.format.specs.Numbers.{AllBytes}
+use Rattle.format.specs.Writing.{recordsBytes, headerOf, written, Good}
 use Rattle.format.specs.Reading.{due, runDue, headerIn, headerDue, headerUnless, listsDue, bandsDue, bandCount, bandsIn, lookedAt, fileEnd, frameIn, tasksIn, bodyDue, Read, readHeader, readBody, readAfter, readPlan, planAfter, lentAfter, readLent}
-use Rattle.format.proofs.Numbers.{Byte}
 use Rattle.format.proofs.Records.{unrefused}
 use Rattle.format.proofs.Bands.{run-is, run-room}
 use Rattle.format.proofs.Files.{read-back, whole, write-back, identified, read-is, header-is, after-is, frame-count, bands-count, tasks-count}
 
--- a plan that passes the checks, with 32-bit identifiers
-pub record Good (f : Frame) (ts : List Task) : Type 0 where
-  pub identifiers : Each Identified (f .resources)
-  pub passes : check f ts ≡ Accepted
-
 pub written-read : (f : Frame) (ts : List Task) → Good f ts → readPlan (written f ts) ≡ Read.Plan f ts
 written-read f ts g = read-back f ts (g .identifiers) (g .passes)
 
-module _ (file : List ℕ) (bytes : Each Byte file) (f : Frame) (ts : List Task) where
+pub written-accepted : (file : List ℕ) (f : Frame) (ts : List Task) → Good f ts × (written f ts ≡ file) → readPlan file ≡ Read.Plan f ts
+written-accepted file f ts g = subst (λ (x : List ℕ). readPlan x ≡ Read.Plan f ts) (g .1) (written-read f ts (g .0))
+
+module _ (file : List ℕ) (bytes : AllBytes file) (f : Frame) (ts : List Task) where
   pub accepted-written : readPlan file ≡ Read.Plan f ts → Good f ts × (written f ts ≡ file)
   accepted-written e =
       let w = whole e in
       (record { identifiers = identified file f ts w bytes; passes = w .accepted }, write-back file f ts w bytes)
-
-  pub written-accepted : Good f ts × (written f ts ≡ file) → readPlan file ≡ Read.Plan f ts
-  written-accepted g = subst (λ (x : List ℕ). readPlan x ≡ Read.Plan f ts) (g .1) (written-read f ts (g .0))
 
   pub read-written : readPlan file ≡ Read.Plan f ts → written f ts ≡ file
   read-written e = accepted-written e .1

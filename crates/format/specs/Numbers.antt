@@ -1,10 +1,18 @@
 -- Numbers in bytes: "Numbers are little-endian, signed ones in two's complement."
 use mathlib.Core.List.{List, [], _∷_}
-use Prim.Native.Nat.{ℕ, zero, suc, _+_, _*_, _/_, _%_}
+use Prim.Native.Nat.{ℕ, zero, suc, _+_, _*_, _/_, _%_, _<_}
 use lib.IntN.{ℤ}
 use lib.ListN.{take, drop}
 use mir.Syntax.{w32}
 use mir.Val.{toZ, ofZ}
+use Rattle.integers.specs.Lists.{Each}
+
+-- what a lent file holds: bytes
+abbrev pub Byte : ℕ → Type 0
+Byte b = b < 256
+
+abbrev pub AllBytes : List ℕ → Type 0
+AllBytes bs = Each Byte bs
 
 -- a number in so many bytes, the lowest first
 unfoldable pub bytesOf : ℕ → ℕ → List ℕ

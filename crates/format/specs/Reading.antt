@@ -15,6 +15,7 @@ use Rattle.plan.specs.declared.Checked.{Checked}
 use Rattle.plan.specs.declared.Checked.the-variants.{Accepted, Refused}
 use Rattle.plan.specs.declared.Refusal.{Refusal}
 use Rattle.plan.specs.declared.Refusal.the-variants.{TooManyTasks, ResourceCount, WrongMark, CutShort, ListShort, BandOutside}
+use Rattle.plan.specs.Refusals.{Told, told, toldRefusal}
 use Rattle.plan.specs.Tasks.{mostResources, mostBands, mostTasks}
 use Rattle.rules.specs.Frame.{Frame, framed, resourceCount}
 use Rattle.rules.specs.Calls.{orElse, refuseIf, check}
@@ -25,7 +26,7 @@ use Rattle.format.specs.declared.Header.{Header}
 use Rattle.format.specs.declared.HeaderAnswer.{HeaderAnswer}
 use Rattle.format.specs.declared.Run.{Run}
 use Rattle.format.specs.declared.ReadAnswer.{ReadAnswer}
-use Rattle.format.specs.Format.{Layout, resources, bands, tasks, size, markSize, marked, numbersIn, headerFrom, senseFrom, bandsFrom, tasksFrom, fileLength}
+use Rattle.format.specs.Format.{Layout, resources, bands, tasks, size, markSize, marked, numbersIn, headerFrom, senseNumber, senseFrom, bandsFrom, tasksFrom, fileLength}
 use Rattle.format.specs.Writing.{laid}
 
 -- ---- one record, in the bytes from its place on
@@ -177,15 +178,21 @@ lentAfter places bandRoom room file (HeaderAnswer.Refused f) = Refuse f
 unfoldable pub readLent : ℕ → ℕ → ℕ → List ℕ → Read
 readLent places bandRoom room file = lentAfter places bandRoom room file (readHeader file)
 
--- ---- the reading call: its answer, and the later contents of the three lent lists
+-- ---- the reading call
+-- the page's number and values of its answer: 0 with the sense and the three counts, or the refusal's number with its place
+abbrev pub toldRead : ReadAnswer → Told
+toldRead (ReadAnswer.Plan sense n k m) = told 0 (senseNumber sense ∷ n ∷ k ∷ m ∷ [])
+toldRead (ReadAnswer.Refused f) = toldRefusal f
+
+-- the answer, so told, and the later contents of the three lent lists
 pub record ReadResult : Type 0 where
-  pub answer : ReadAnswer
+  pub answer : Told
   pub resources : List Resource
   pub bands : List Band
   pub tasks : List Task
 
 abbrev pub readResult : ReadAnswer → List Resource → List Band → List Task → ReadResult
-readResult r qs bs ts = record { answer = r; resources = qs; bands = bs; tasks = ts }
+readResult r qs bs ts = record { answer = toldRead r; resources = qs; bands = bs; tasks = ts }
 
 -- the sense and the three counts; "On success the reader writes the first places only and later ones stay"; on a refusal all stay
 abbrev pub readInto : Read → List Resource → List Band → List Task → ReadResult

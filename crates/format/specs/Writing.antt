@@ -1,4 +1,5 @@
 -- What is written: "One PL, all RS, all TK, nothing more", and the bands "after all RS and before TK"; and what the writing call answers and leaves.
+use mathlib.Core.Path.{_≡_}
 use mathlib.Core.List.{List, [], _∷_, _++_}
 use Prim.Native.Nat.{ℕ, _+_, _<_, _^_}
 use lib.Dec.{ltb}
@@ -7,11 +8,13 @@ use lib.Seq.{sets}
 use mir.Syntax.{w32}
 use mir.Val.{SFits}
 use Rattle.integers.specs.Hull.{Range}
+use Rattle.integers.specs.Lists.{Each}
 use Rattle.plan.specs.declared.Task.{Task}
 use Rattle.plan.specs.declared.Resource.{Resource}
 use Rattle.plan.specs.declared.Band.{Band}
 use Rattle.plan.specs.declared.Checked.{Checked}
 use Rattle.plan.specs.declared.Refusal.the-variants.{BufferShort}
+use Rattle.plan.specs.Refusals.{Told, told, toldRefusal}
 use Rattle.plan.specs.Days.{daysOf}
 use Rattle.plan.specs.Powers.{powersOf}
 use Rattle.plan.specs.Tasks.{mostResources}
@@ -56,6 +59,11 @@ pub record TaskSmall (t : Task) : Type 0 where
 abbrev pub Identified : Resource → Type 0
 Identified q = SFits w32 (q .id)
 
+-- a plan that can be written: 32-bit identifiers, which every lent list of resources has, and it passes the checks
+pub record Good (f : Frame) (ts : List Task) : Type 0 where
+  pub identifiers : Each Identified (f .resources)
+  pub passes : check f ts ≡ Checked.Accepted
+
 pub record ResourceSmall (q : Resource) : Type 0 where
   pub id : Identified q
   pub limit : SFits w32 (q .limit .0)
@@ -78,13 +86,18 @@ rangeStored bs at s = sets (sets bs at (bytesOf 4 (unsignedOf (s .low)))) (at + 
 abbrev pub laid {ℓ} : {A : Type ℓ} → List A → List A → List A
 laid xs ds = xs ++ drop (length xs) ds
 
--- the answer, and the buffer's later contents
+-- the page's number and values of its answer: 0 with the file's length, or the refusal's number with its place
+abbrev pub toldWrite : WriteAnswer → Told
+toldWrite (Written n) = told 0 (n ∷ [])
+toldWrite (Refused f) = toldRefusal f
+
+-- the answer, so told, and the buffer's later contents
 pub record WriteResult : Type 0 where
-  pub answer : WriteAnswer
+  pub answer : Told
   pub buffer : List ℕ
 
 abbrev pub writeResult : WriteAnswer → List ℕ → WriteResult
-writeResult r out = record { answer = r; buffer = out }
+writeResult r out = record { answer = toldWrite r; buffer = out }
 
 abbrev pub writtenUnless : Checked → List ℕ → List ℕ → WriteResult
 writtenUnless Checked.Accepted file out = writeResult (Written (length file)) (laid file out)

@@ -1,8 +1,12 @@
 // The plan file's format: its marks, records and fields, what reading and writing answer, and the laws of what is written and read.
+ghost use Rattle.format.specs.Numbers.{Byte};
+ghost use Rattle.format.specs.Writing.{Identified};
+
 pub mod fields;
 pub mod table;
 
 use plan::Refusal;
+use plan::Resource;
 use plan::Sense;
 
 // The four marks, in a file's order.
@@ -42,4 +46,18 @@ pub enum ReadAnswer {
 pub enum WriteAnswer {
     Written(usize),
     Refused(Refusal),
+}
+
+// What the round trips ask of each resource of a lent list and of each byte of a lent file, every value of the type has: these two stand for
+// their promise alone. (Of a whole lent list the toolchain tells its length only.)
+pub fn any_resource(q: Resource) -> Resource
+    ensures { λ _. ⌜ Identified q ⌝ }
+{
+    q
+}
+
+pub fn any_byte(b: u8) -> u8
+    ensures { λ _. ⌜ Byte b ⌝ }
+{
+    b
 }

@@ -1,8 +1,8 @@
 // Gristwaltz for other languages: calls on a plan file in memory, each with one number as its answer. They keep no state. Only what is
 // exported stands here, so that an edit of it is proved again in seconds; the work is done in crate calls.
 ghost use mathlib.Core.Path.{_≡_};
-ghost use Rattle.plan.specs.declared.Call.the-variants.{Balance, Step, Settle};
-ghost use Rattle.calls.specs.Files.{fileResult, fileCall, checkFile};
+ghost use Rattle.plan.specs.declared.Call.the-variants.{Balance, Step, Pass, Settle};
+ghost use Rattle.answers.specs.Files.{fileResult, fileCall, checkFile};
 use plan::Call;
 
 // Settles the plan of a file and writes the settled plan's file.
@@ -27,6 +27,14 @@ pub extern "C" fn gristwaltz_resource_step(file: &[u8], place: usize, out: &mut 
     ensures { λ r. ⌜ fileResult r (now (out .exit)) ≡ fileCall (Step place) (now (file .entry)) (now (out .entry)) ⌝ }
 {
     calls::apply_to_file(Call::Step(place), file, out)
+}
+
+// One pass: the balance step, then the step of each resource in list order. Passes until one changes nothing are settling.
+#[no_mangle]
+pub extern "C" fn gristwaltz_pass(file: &[u8], out: &mut [u8]) -> u64
+    ensures { λ r. ⌜ fileResult r (now (out .exit)) ≡ fileCall Pass (now (file .entry)) (now (out .entry)) ⌝ }
+{
+    calls::apply_to_file(Call::Pass, file, out)
 }
 
 // Whether a file is a plan that passes the entry checks.

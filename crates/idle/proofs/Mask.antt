@@ -24,15 +24,16 @@ use Rattle.rules.specs.Step.{shortfall, narrowed, listedDays, atLeastStep, sens
 use Rattle.rules.specs.Settle.{sameRanges, sameTask, sameTasks}
 use Rattle.rules.specs.Calls.{check}
 use Rattle.rules.proofs.Live.{Live, Lives}
-use Rattle.rules.proofs.Subs.{Subs, subs-length}
-use Rattle.rules.proofs.Subs.Subs.{no-subs, more-subs}
+use Rattle.rules.proofs.Subs.{subs-length}
+use Rattle.rules.specs.Keeps.{Subs, Keeps}
+use Rattle.rules.specs.Keeps.Subs.{no-subs, more-subs}
 use Rattle.rules.proofs.Untouched.{narrowed-away}
 use Rattle.rules.proofs.Sets.{kept-set-is, set-stayed}
 use Rattle.rules.proofs.Rooms.{same-ranges-is, same-task-is, same-tasks-self}
 use Rattle.rules.proofs.Elsewhere.{Alike, Beside, if-plan, step-elsewhere}
 use Rattle.rules.proofs.Elsewhere.Beside.{no-tasks, same-task, other-task, other-set}
 use Rattle.rules.proofs.Checks.{accepts, check-live}
-use Rattle.rules.proofs.Keeps.{Keeps, Sound, balance-sound, step-sound}
+use Rattle.rules.proofs.Keeps.{Sound, balance-sound, step-sound}
 use Rattle.rows.specs.declared.Stepped.{Stepped}
 use Rattle.rows.specs.Changes.{planIf, outcomeOf, seenBy, touchedBy, Notes}
 use Rattle.rows.proofs.Changes.{touched-tells}

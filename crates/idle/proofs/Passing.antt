@@ -15,7 +15,8 @@ use Rattle.rules.specs.Balance.Outcome.{NoPlan, Plan}
 use Rattle.rules.specs.Step.{resourceStep}
 use Rattle.rules.specs.Settle.{then, steps, pass, sameTasks}
 use Rattle.rules.specs.Calls.{check}
-use Rattle.rules.proofs.Keeps.{Keeps, Sound, keeps-then, nothing-sound, balance-sound, step-sound}
+use Rattle.rules.proofs.Keeps.{Sound, keeps-then, nothing-sound, balance-sound, step-sound}
+use Rattle.rules.specs.Keeps.{Keeps}
 use Rattle.rules.proofs.Passes.{steps-sound}
 use Rattle.rules.proofs.Rooms.{keeps-rooms, keeps-less, less-changed, same-tasks-is}
 use Rattle.rows.specs.Changes.{planIf}

@@ -1,21 +1,21 @@
--- The passes of settling: enough passes are as good as more, and one pass more is one pass more.
+-- The passes of settling, counted on: one pass more is one pass more.
 use mathlib.Core.Path.{_≡_, refl, sym, ap, _∙_, subst}
 use mathlib.Core.Bool.{Bool, true, false, not}
 use mathlib.Core.List.{List}
-use Prim.Native.Nat.{ℕ, zero, suc, _+_, _≤_, _<_}
+use Prim.Native.Nat.{ℕ, _+_, _≤_, _<_}
 use native.Mathlib.Omega.{arith}
-use Rattle.integers.proofs.Tests.{by-cases}
 use Rattle.plan.specs.declared.Sense.the-variants.{AtLeast}
 use Rattle.plan.specs.declared.Task.{Task}
 use Rattle.plan.specs.declared.Checked.the-variants.{Accepted}
 use Rattle.rules.specs.Frame.{Frame}
-use Rattle.rules.specs.Balance.{Outcome}
-use Rattle.rules.specs.Balance.Outcome.{NoPlan, Plan}
-use Rattle.rules.specs.Settle.{pass, sameTasks, Settled, onePassMore, unlessSame, settleWithin, settle, rooms}
+use Rattle.rules.specs.Balance.Outcome.{Plan}
+use Rattle.rules.specs.Settle.{pass, sameTasks, Settled, onePassMore, settle, rooms}
 use Rattle.rules.specs.Settle.Settled.{Refused, After, Unsettled}
 use Rattle.rules.specs.Calls.{check}
-use Rattle.rules.proofs.Keeps.{Keeps, Sound}
+use Rattle.rules.proofs.Keeps.{Sound}
+use Rattle.rules.specs.Keeps.{Keeps}
 use Rattle.rules.proofs.Passes.{pass-sound}
+use Rattle.rules.proofs.Ends.{settle-refused, settle-last, settle-more}
 use Rattle.rules.proofs.Rooms.{keeps-less}
 use Rattle.rows.specs.Changes.{planIf}
 use Rattle.idle.specs.declared.Passed.{Passed}
@@ -37,39 +37,6 @@ pub plus-more : (n : ℕ) (s : Settled) → plusPasses n (onePassMore s) ≡ plu
 plus-more n Refused = refl
 plus-more n (After k us) = ap (λ (j : ℕ). After j us) (omega arith)
 plus-more n Unsettled = refl
-
-module _ (f : Frame) where
-  -- any two bounds above the room give the same
-  same-bound : (n m : ℕ) (ts : List Task) → check f ts ≡ Accepted → rooms ts < n → rooms ts < m → settleWithin n f ts ≡ settleWithin m f ts
-  unfolding settleWithin
-  same-bound zero m ts a h l = absurd (omega arith)
-  same-bound (suc n) zero ts a h l = absurd (omega arith)
-  same-bound (suc n) (suc m) ts a h l = go (pass f ts) (pass-sound f ts a) (same-bound n m)
-    where
-      go : (o : Outcome) → Sound f ts o → ((us : List Task) → check f us ≡ Accepted → rooms us < n → rooms us < m → settleWithin n f us ≡ settleWithin m f us) → unlessSame (settleWithin n f) ts o ≡ unlessSame (settleWithin m f) ts o
-      go NoPlan k g = refl
-      go (Plan us) k g =
-          by-cases (sameTasks ts us) (λ e. rw e)
-          (λ e. let less = keeps-less f ts us a k e in rw (e, g us (k .accepted) (omega arith) (omega arith)))
-
-  module _ (ts : List Task) (a : check f ts ≡ Accepted) where
-    -- the pass finds no plan
-    pub settle-none : pass f ts ≡ NoPlan → settle f ts ≡ Refused
-    unfolding settle settleWithin
-    settle-none e = rw e
-
-    -- the pass changes nothing
-    pub settle-last : (us : List Task) → pass f ts ≡ Plan us → sameTasks ts us ≡ true → settle f ts ≡ After 1 us
-    unfolding settle settleWithin
-    settle-last us e s = rw (e, s)
-
-    -- the pass changes something
-    pub settle-more : (us : List Task) → pass f ts ≡ Plan us → sameTasks ts us ≡ false → settle f ts ≡ onePassMore (settle f us)
-    unfolding settle settleWithin
-    settle-more us e s =
-        let k : Keeps f ts us = subst (Sound f ts) e (pass-sound f ts a) in
-        let l = keeps-less f ts us a k s in
-        rw (e, s) (ap onePassMore (same-bound (rooms ts) (suc (rooms us)) us (k .accepted) l (omega arith)))
 
 -- ---- settling under way: so many passes are done, and the rest of them on the list as it is now gives the answer
 pub record Settles (f : Frame) (ts us : List Task) (mask passes : ℕ) : Type 0 where
@@ -93,7 +60,7 @@ module _ (f : Frame) (least : f .sense ≡ AtLeast) (ts : List Task) where
     -- the pass found no plan
     pub settles-none : p .ok ≡ false → settle f ts ≡ Refused
     settles-none e =
-        s .rest ∙ ap (plusPasses passes) (settle-none f us (s .accepted) (sym (t .outcome) ∙ ap (λ (b : Bool). planIf b vs) e))
+        s .rest ∙ ap (plusPasses passes) (settle-refused f us (s .accepted) (sym (t .outcome) ∙ ap (λ (b : Bool). planIf b vs) e))
 
     module _ (ok : p .ok ≡ true) where
       left : pass f us ≡ Plan vs

@@ -9,7 +9,7 @@ use lib.IntN.{ℤ, pos, negsuc, sucℤ, _+ℤ_, _-ℤ_, natAbs}
 use lib.Signed.{leZ, ltZ, _≤ℤ_, _<ℤ_}
 use Rattle.integers.specs.Whole.{eqZ}
 use Rattle.integers.specs.Tests.{if, and, all, filter}
-use Rattle.integers.specs.Hull.{Range, range, within, sameRange, fits, width, upFrom, countOf, values, last, Left, hull, left}
+use Rattle.integers.specs.Hull.{Range, range, within, sameRange, fits, Sub, width, upFrom, countOf, values, last, Left, hull, left}
 use Rattle.integers.specs.Hull.Left.{Nothing, Some}
 use Rattle.integers.specs.Ends.{Within, InEnds}
 use Rattle.integers.proofs.Z.{z, up, dn, +z, -z, sucz, leZ-in, eqZ-in, eqZ-is}
@@ -149,10 +149,6 @@ module _ (p : ℤ → Bool) where
   values-in s f = all-into (countOf (s .high -ℤ s .low)) (s .low) λ v h g. f v (record { least = h; most = count-in s v g h })
 
 -- ---- what is left lies in the range
-pub record Sub (s' s : Range) : Type 0 where
-  pub above : s .low ≤ℤ s' .low
-  pub below : s' .high ≤ℤ s .high
-
 abbrev pub LeftSub : Range → Left → Type 0
 LeftSub s Nothing = Unit {0}
 LeftSub s (Some s') = Sub s' s

@@ -3,7 +3,7 @@ use mathlib.Core.List.{List, [], _∷_}
 use mathlib.Core.Bool.{Bool}
 use Prim.Native.Nat.{ℕ, zero, suc}
 use lib.IntN.{ℤ, pos, negsuc, sucℤ, _-ℤ_, natAbs}
-use lib.Signed.{leZ}
+use lib.Signed.{leZ, _≤ℤ_}
 use Rattle.integers.specs.Whole.{eqZ}
 use Rattle.integers.specs.Tests.{and, filter}
 
@@ -25,6 +25,11 @@ sameRange a b = and (eqZ (a .low) (b .low)) (eqZ (a .high) (b .high))
 -- the range s lies within the ends e, and its low is not above its high
 unfoldable pub fits : Range → Range → Bool
 fits e s = and (leZ (e .low) (s .low)) (and (leZ (s .low) (s .high)) (leZ (s .high) (e .high)))
+
+-- the range s' lies inside s
+pub record Sub (s' s : Range) : Type 0 where
+  pub above : s .low ≤ℤ s' .low
+  pub below : s' .high ≤ℤ s .high
 
 -- how far apart its two ends are
 unfoldable pub width : Range → ℕ

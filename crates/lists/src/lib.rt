@@ -1,9 +1,9 @@
 // The call over lists of records that a caller lends: the lists are loaded by value, and the tasks that are left are stored back.
 ghost use mathlib.Core.Path.{_≡_};
+ghost use Rattle.plan.specs.Refusals.{toldAnswer};
 ghost use Rattle.rules.specs.Frame.{framed};
-ghost use Rattle.rules.specs.Calls.{callOf};
+ghost use Rattle.rules.specs.Calls.{listResult, listCall};
 ghost use Rattle.arrays.specs.Applies.{Applies};
-ghost use Rattle.lists.specs.Calls.{result};
 use arrays::Applied;
 use copies::Bands;
 use copies::Resources;
@@ -46,7 +46,7 @@ pub fn apply(
     bands: &[Band],
     tasks: &mut [Task],
 ) -> Answer
-    ensures { λ r. ⌜ result r (now (tasks .exit)) ≡ callOf call (framed sense (now (resources .entry)) (now (bands .entry))) (now (tasks .entry)) ⌝ }
+    ensures { λ r. ⌜ listResult (toldAnswer r) (now (tasks .exit)) ≡ listCall call (framed sense (now (resources .entry)) (now (bands .entry))) (now (tasks .entry)) ⌝ }
 {
     let q = load_resources(resources);
     let b = load_bands(bands);

@@ -1,2 +1,3 @@
--- The laws of sets.
+-- The laws of sets and of refusals.
 pub mod Sets
+pub mod Refusals

@@ -9,7 +9,7 @@ use lib.Bits.{bitAnd, bitOr, bitXor, and-step, differ, or-step, or-comm, xor-ste
 use lib.Dec.{T, eqb, eqb→eq, eqb-refl}
 use Rattle.integers.specs.Tests.{if, or}
 use Rattle.integers.proofs.Tests.{clash, by-cases, true-of, false-in, if-case, or-first, or-assoc}
-use Rattle.plan.specs.Sets.{has, only, atMostOne, without, size, union, differing}
+use Rattle.plan.specs.Sets.{has, only, atMostOne, without, SubSet, size, union, differing}
 
 pub eqb-true : (a b : ℕ) → eqb a b ≡ true → a ≡ b
 eqb-true a b e = eqb→eq a b (subst T (sym e) tt)
@@ -151,9 +151,6 @@ alone-is (suc r) s h f =
     omega (arith, two-pow-succ r)
 
 -- ---- how many places a set has, among the first m
-abbrev pub SubSet : ℕ → ℕ → Type 0
-SubSet s' s = (k : ℕ) → has s' k ≡ true → has s k ≡ true
-
 bit-le : (s' s : ℕ) → SubSet s' s → s' % 2 ≤ s % 2
 unfolding has
 bit-le s' s h =

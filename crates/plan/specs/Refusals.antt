@@ -1,7 +1,10 @@
--- The page's number and place for each refusal.
+-- The page's number and place for each refusal, and its number and values for each answer.
 use Prim.Native.Nat.{ℕ}
+use mathlib.Core.List.{List, [], _∷_}
 use Rattle.plan.specs.declared.Refusal.{Refusal}
 use Rattle.plan.specs.declared.Refusal.the-variants.{TooManyTasks, ResourceCount, RepeatedIdentifier, LimitOutside, RangeOutside, SetOutside, NoPlan, WrongMark, CutShort, BufferShort, ListShort, NoSuchResource, BandOutside}
+use Rattle.plan.specs.declared.Answer.{Answer}
+use Rattle.plan.specs.declared.Answer.the-variants.{Done, Refused}
 
 -- "Numbered refusals", the first column
 abbrev pub number : Refusal → ℕ
@@ -34,3 +37,20 @@ place BufferShort = 0
 place ListShort = 0
 place NoSuchResource = 0
 place (BandOutside k) = k
+
+-- "Where an answer is an enum, a definition gives this paper's number and values for each of the enum's cases. The promises use this
+-- definition." The number of a refusal with its place, or 0 with what was answered
+pub record Told : Type 0 where
+  pub number : ℕ
+  pub values : List ℕ
+
+abbrev pub told : ℕ → List ℕ → Told
+told n vs = record { number = n; values = vs }
+
+abbrev pub toldRefusal : Refusal → Told
+toldRefusal f = told (number f) (place f ∷ [])
+
+-- done: the pass count of settling, 0 of every other call
+abbrev pub toldAnswer : Answer → Told
+toldAnswer (Done n) = told 0 (n ∷ [])
+toldAnswer (Refused f) = toldRefusal f

@@ -1,5 +1,6 @@
 -- A set of resources as a number: "bit k is resource k". What holds of sets is said over numbers, whatever their width.
-use mathlib.Core.Bool.{Bool}
+use mathlib.Core.Path.{_≡_}
+use mathlib.Core.Bool.{Bool, true}
 use Prim.Native.Nat.{ℕ, zero, suc, _+_, _-_, _/_, _%_, _^_}
 use lib.Bits.{bitAnd, bitOr, bitXor}
 use lib.Dec.{eqb}
@@ -25,6 +26,10 @@ atMostOne s = eqb (bitAnd s (s - 1)) 0
 -- the set without resource k
 unfoldable pub without : ℕ → ℕ → ℕ
 without s k = if (has s k) (s - 2 ^ k) s
+
+-- every resource of s' is one of s
+abbrev pub SubSet : ℕ → ℕ → Type 0
+SubSet s' s = (k : ℕ) → has s' k ≡ true → has s k ≡ true
 
 -- how many of the first m places the set has
 unfoldable pub size : ℕ → ℕ → ℕ

@@ -1,2 +1,4 @@
 -- Laws of the reader.
+pub mod Held
 pub mod Unique
+pub mod Walking

@@ -1,9 +1,10 @@
 // "A reader stands in the lent file bytes and hands out one record after another": it holds the bytes and its place in them.
 // Each of its functions takes it apart for the cursor by value, which stands on the same bytes.
 ghost use mathlib.Core.Path.{_≡_};
-ghost use Rattle.cursor.specs.Handed.{recordAt};
+ghost use Rattle.cursor.specs.Handed.{recordAt, pastAt};
 use cursor::Cursor;
 use cursor::Record;
+use format::Mark;
 
 pub struct Reader<'a> {
     pub file: &'a [u8],
@@ -25,12 +26,34 @@ pub fn next<'a>(r: Reader<'a>) -> Record
     c.next(r.file)
 }
 
-// Past the record that it handed out.
-pub fn past<'a>(r: Reader<'a>, c: Cursor) -> Reader<'a>
-    ensures { λ x. ⌜ (x .file ≡ r .entry .file) × (x .at ≡ c .at) ⌝ }
+// The same record, found sooner where it is the one that is due.
+pub fn next_due<'a>(r: Reader<'a>, due: Mark) -> Record
+    ensures { λ x. ⌜ x ≡ recordAt (now (r .entry .file)) (r .entry .at) ⌝ }
 {
+    let c = Cursor { at: r.at };
+    c.next_due(due, r.file)
+}
+
+// Past the record it stands at, on the same bytes: "one record after another".
+pub fn past<'a>(r: Reader<'a>) -> Reader<'a>
+    ensures { λ x. ⌜ (x .file ≡ r .entry .file) × (x .at ≡ pastAt (now (r .entry .file)) (r .entry .at)) ⌝ }
+{
+    let c = Cursor { at: r.at };
     Reader {
         file: r.file,
-        at: c.at,
+        at: c.past(r.file),
     }
+}
+
+// How a reading call whose parameters are plain takes the record that is due where its cursor stands: from a reader that stands there.
+pub fn next_due_at(file: &[u8], c: Cursor, due: Mark) -> Record
+    ensures { λ x. ⌜ x ≡ recordAt (now (file .entry)) (c .at) ⌝ }
+{
+    next_due(
+        Reader {
+            file: file,
+            at: c.at,
+        },
+        due,
+    )
 }

@@ -1,2 +1,3 @@
 -- Laws of the report.
 pub mod Told
+pub mod Case9

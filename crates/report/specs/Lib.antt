@@ -1,2 +1,3 @@
--- What is printed for a plan file.
+-- What is printed for a plan file, and for that of case 9.
 pub mod Report
+pub mod Case9

@@ -1,5 +1,6 @@
 -- How large the numbers of an answer get: a pass count is far below 2^32, and the place of a refusal by the entry checks is below 256.
 use mathlib.Core.Path.{_≡_, refl, subst}
+use mathlib.Core.Logic.{_≢_}
 use mathlib.Core.Bool.{Bool, true, false, not}
 use mathlib.Core.List.{List, [], _∷_}
 use Prim.Native.Nat.{ℕ, zero, suc, _+_, _-_, _*_, _/_, _^_, _≤_, _<_}
@@ -23,7 +24,7 @@ use Rattle.plan.specs.declared.Refusal.{Refusal}
 use Rattle.plan.specs.declared.Refusal.the-variants.{TooManyTasks, ResourceCount, RepeatedIdentifier, LimitOutside, RangeOutside, SetOutside, BandOutside}
 use Rattle.plan.specs.declared.Checked.{Checked}
 use Rattle.plan.specs.declared.Checked.the-variants.{Accepted, Refused}
-use Rattle.plan.specs.Refusals.{place}
+use Rattle.plan.specs.Refusals.{number, place}
 use Rattle.plan.specs.Days.{daysOf, dayEnds, durationEnds}
 use Rattle.plan.specs.Powers.{powersOf, powerEnds}
 use Rattle.plan.specs.Sets.{size}
@@ -82,30 +83,33 @@ module _ (f : Frame) (ts : List Task) (ok : check f ts ≡ Accepted) where
   pub settle-small : (k : ℕ) (us : List Task) → settle f ts ≡ After k us → k < 2 ^ 32
   settle-small k us e = let a = settle-most k us e in omega arith
 
--- ---- the place of a refusal, where there is one, is at most b
+-- ---- the place of a refusal of the checks, where there is one, is at most b, and its number is not 7
 module _ (b : ℕ) where
+  abbrev pub PlaceIn : Refusal → Type 0
+  PlaceIn f = (place f ≤ b) × (number f ≢ 7)
+
   abbrev pub PlacedTo : Checked → Type 0
   PlacedTo Accepted = Unit {0}
-  PlacedTo (Refused f) = place f ≤ b
+  PlacedTo (Refused f) = PlaceIn f
 
   pub placed-then : (a c : Checked) → PlacedTo a → (a ≡ Accepted → PlacedTo c) → PlacedTo (orElse a c)
   placed-then Accepted c h g = g refl
   placed-then (Refused f) c h g = h
 
-  pub placed-if : (t : Bool) (f : Refusal) → place f ≤ b → PlacedTo (refuseIf t f)
+  pub placed-if : (t : Bool) (f : Refusal) → PlaceIn f → PlacedTo (refuseIf t f)
   placed-if true f h = h
   placed-if false f h = tt
 
-  pub placed-unless : (t : Bool) (f : Refusal) (c : Checked) → place f ≤ b → (t ≡ false → PlacedTo c) → PlacedTo (orElse (refuseIf t f) c)
+  pub placed-unless : (t : Bool) (f : Refusal) (c : Checked) → PlaceIn f → (t ≡ false → PlacedTo c) → PlacedTo (orElse (refuseIf t f) c)
   placed-unless true f c h g = h
   placed-unless false f c h g = g refl
 
-  placed-is : (c : Checked) (f : Refusal) → PlacedTo c → c ≡ Refused f → place f ≤ b
+  placed-is : (c : Checked) (f : Refusal) → PlacedTo c → c ≡ Refused f → PlaceIn f
   placed-is c f h e = subst PlacedTo e h
 
 pub placed-more : (a b : ℕ) → a ≤ b → (c : Checked) → PlacedTo a c → PlacedTo b c
 placed-more a b l Accepted h = tt
-placed-more a b l (Refused f) h = omega arith
+placed-more a b l (Refused f) h = (let p = h .0 in omega arith, h .1)
 
 -- counted from k, each place is one of the list
 repeats-placed : (b k : ℕ) (seen : List ℤ) (qs : List Resource) → k + length qs ≤ suc b → PlacedTo b (repeats k seen qs)
@@ -169,4 +173,8 @@ check-placed f ts =
     tasks-placed lastPlace n 0 ts (omega (arith, few-tasks))
 
 pub check-place : (f : Frame) (ts : List Task) (e : Refusal) → check f ts ≡ Refused e → place e ≤ lastPlace
-check-place f ts e h = placed-is lastPlace (check f ts) e (check-placed f ts) h
+check-place f ts e h = placed-is lastPlace (check f ts) e (check-placed f ts) h .0
+
+-- the entry checks never say "no plan"
+pub check-number : (f : Frame) (ts : List Task) (e : Refusal) → check f ts ≡ Refused e → number e ≢ 7
+check-number f ts e h = placed-is lastPlace (check f ts) e (check-placed f ts) h .1

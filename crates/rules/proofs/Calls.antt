@@ -1,25 +1,30 @@
 -- Each call by its refusals: 1 to 6 and 13, then 12, then 7; and what a call leaves holds the same allowed plans.
-use mathlib.Core.Path.{_≡_, ap, subst}
-use mathlib.Core.Bool.{true, false}
+use mathlib.Core.Path.{_≡_, refl, sym, ap, subst}
+use mathlib.Core.Bool.{true, false, not}
 use mathlib.Core.List.{List}
-use Prim.Native.Nat.{ℕ, suc}
+use Prim.Native.Nat.{ℕ, suc, _+_}
 use native.Mathlib.Omega.{arith}
 use borrow.Author.Tests.{ltb-true}
+use Rattle.integers.proofs.Tests.{by-cases}
 use Rattle.plan.specs.declared.Task.{Task}
 use Rattle.plan.specs.declared.Call.{Call}
 use Rattle.plan.specs.declared.Call.the-variants.{Check, Balance, Step, Pass, Settle}
 use Rattle.plan.specs.declared.Refusal.{Refusal}
 use Rattle.plan.specs.declared.Refusal.the-variants.{NoPlan, NoSuchResource}
+use Rattle.plan.specs.declared.Answer.{Answer}
 use Rattle.plan.specs.declared.Answer.the-variants.{Done, Refused}
+use Rattle.plan.specs.Refusals.{toldAnswer}
 use Rattle.plan.specs.declared.Checked.{Checked}
 use Rattle.plan.specs.declared.Checked.the-variants.{Accepted}
 use Rattle.rules.specs.Frame.{Frame, resourceCount}
 use Rattle.rules.specs.Balance.{Outcome, balance}
 use Rattle.rules.specs.Step.{resourceStep}
 use Rattle.rules.specs.Settle.{Settled, pass, settle, rooms}
-use Rattle.rules.specs.Calls.{check, done, refused, stepped, settled, placedIn, answered, callOf}
-use Rattle.rules.proofs.Keeps.{Keeps, Sound, balance-sound, step-sound, nothing-sound}
+use Rattle.rules.specs.Calls.{orElse, refuseIf, check, Result, done, refused, unlessRefused, stepped, settled, placedIn, answered, callOf, listResult, listCall}
+use Rattle.rules.proofs.Keeps.{Sound, balance-sound, step-sound, nothing-sound}
+use Rattle.rules.specs.Keeps.{Keeps, HoldsNone}
 use Rattle.rules.proofs.Passes.{pass-sound, SettledSound, settle-sound}
+use Rattle.rules.proofs.Ends.{Ended, settle-ends}
 
 module _ (c : Call) (f : Frame) (ts : List Task) where
   pub call-refused : (e : Refusal) → check f ts ≡ Checked.Refused e → callOf c f ts ≡ refused e ts
@@ -34,30 +39,75 @@ module _ (c : Call) (f : Frame) (ts : List Task) where
   unfolding callOf
   call-answered a h = rw (a, h)
 
--- ---- what is left
-module _ (f : Frame) (ts us : List Task) (n : ℕ) where
-  not-done : {P : Type 0} → refused NoPlan ts ≡ done n us → P
-  not-done e =
-      let a : Refused NoPlan ≡ Done n = ap (λ x. x .answer) e in
-      let q : _≡_ {A = ℕ} 0 1 = cc in
-      absurd (omega arith)
+-- ---- what a call answers and leaves of an accepted plan: the same allowed plans; 7 only where there is none; on a refusal what entered
+pub record Fair (f : Frame) (ts : List Task) (x : Result) : Type 0 where
+  pub keeps : Keeps f ts (x .tasks)
+  pub none : x .answer ≡ Refused NoPlan → HoldsNone f ts
 
-  left : (k : ℕ) (vs : List Task) → Keeps f ts vs → done k vs ≡ done n us → Keeps f ts us
-  left k vs h e = subst (Keeps f ts) (ap (λ x. x .tasks) e) h
+module _ (f : Frame) (ts : List Task) where
+  not-done : {P : Type 0} (n : ℕ) → Done n ≡ Refused NoPlan → P
+  not-done n e = let q : _≡_ {A = ℕ} 0 1 = cc in absurd (omega arith)
 
-  stepped-keeps : (o : Outcome) → Sound f ts o → stepped ts o ≡ done n us → Keeps f ts us
-  stepped-keeps Outcome.NoPlan h e = not-done e
-  stepped-keeps (Outcome.Plan vs) h e = left 0 vs h e
+  pub refused-fair : (e : Refusal) → check f ts ≡ Accepted → (Refused e ≡ Refused NoPlan → HoldsNone f ts) → Fair f ts (refused e ts)
+  refused-fair e a h = record { keeps = nothing-sound f ts a; none = h }
 
-  settled-keeps : (s : Settled) → SettledSound f ts s → settled ts s ≡ done n us → Keeps f ts us
-  settled-keeps Settled.Refused h e = not-done e
-  settled-keeps (Settled.After k vs) h e = left k vs h e
-  settled-keeps Settled.Unsettled h e = not-done e
+  stepped-fair : (o : Outcome) → check f ts ≡ Accepted → Sound f ts o → Fair f ts (stepped ts o)
+  stepped-fair Outcome.NoPlan a h = refused-fair NoPlan a (λ e. h)
+  stepped-fair (Outcome.Plan us) a h = record { keeps = h; none = not-done 0 }
 
-  pub call-keeps : (c : Call) → check f ts ≡ Accepted → placedIn (resourceCount f) c ≡ true → callOf c f ts ≡ done n us → Keeps f ts us
-  unfolding callOf settle
-  call-keeps Check a p e = stepped-keeps (Outcome.Plan ts) (nothing-sound f ts a) (rw a at e)
-  call-keeps Balance a p e = stepped-keeps (balance ts) (balance-sound f ts a) (rw a at e)
-  call-keeps (Step r) a p e = stepped-keeps (resourceStep f r ts) (step-sound f r (ltb-true r (resourceCount f) p) ts a) (rw (a, p) at e)
-  call-keeps Pass a p e = stepped-keeps (pass f ts) (pass-sound f ts a) (rw a at e)
-  call-keeps Settle a p e = settled-keeps (settle f ts) (settle-sound (suc (rooms ts)) f ts a) (rw a at e)
+  settled-fair : (s : Settled) → check f ts ≡ Accepted → SettledSound f ts s → (s ≡ Settled.Unsettled → ⊥) → Fair f ts (settled ts s)
+  settled-fair Settled.Refused a h u = refused-fair NoPlan a (λ e. h)
+  settled-fair (Settled.After n us) a h u = record { keeps = h; none = not-done n }
+  settled-fair Settled.Unsettled a h u = absurd (u refl)
+
+  answered-fair : (c : Call) → check f ts ≡ Accepted → placedIn (resourceCount f) c ≡ true → Fair f ts (answered c f ts)
+  unfolding settle
+  answered-fair Check a p = stepped-fair (Outcome.Plan ts) a (nothing-sound f ts a)
+  answered-fair Balance a p = stepped-fair (balance ts) a (balance-sound f ts a)
+  answered-fair (Step r) a p = stepped-fair (resourceStep f r ts) a (step-sound f r (ltb-true r (resourceCount f) p) ts a)
+  answered-fair Pass a p = stepped-fair (pass f ts) a (pass-sound f ts a)
+  answered-fair Settle a p =
+      settled-fair (settle f ts) a (settle-sound (suc (rooms ts)) f ts a) (λ e. subst (Ended f (rooms ts + 1) ts) e (settle-ends f ts a))
+
+  pub call-fair : (c : Call) → check f ts ≡ Accepted → Fair f ts (callOf c f ts)
+  call-fair c a =
+      by-cases (placedIn (resourceCount f) c)
+      (λ p. subst (Fair f ts) (sym (call-answered c f ts a p)) (answered-fair c a p))
+      (λ p. subst (Fair f ts) (sym (call-unplaced c f ts a p)) (refused-fair NoSuchResource a (λ e. let q : _≡_ {A = ℕ} 0 1 = cc in absurd (omega arith))))
+
+  pub call-keeps : (c : Call) (n : ℕ) (us : List Task) → check f ts ≡ Accepted → callOf c f ts ≡ done n us → Keeps f ts us
+  call-keeps c n us a e = subst (Keeps f ts) (ap (λ (x : Result). x .tasks) e) (call-fair c a .keeps)
+
+-- ---- on a refusal the tasks are those that entered, whatever the lists
+abbrev pub Stays : List Task → Result → Type 0
+Stays ts x = (toldAnswer (x .answer) .number ≡ 0 → ⊥) → x .tasks ≡ ts
+
+stepped-stays : (ts : List Task) (o : Outcome) → Stays ts (stepped ts o)
+stepped-stays ts Outcome.NoPlan h = refl
+stepped-stays ts (Outcome.Plan us) h = absurd (h refl)
+
+settled-stays : (ts : List Task) (s : Settled) → Stays ts (settled ts s)
+settled-stays ts Settled.Refused h = refl
+settled-stays ts (Settled.After n us) h = absurd (h refl)
+settled-stays ts Settled.Unsettled h = refl
+
+answered-stays : (c : Call) (f : Frame) (ts : List Task) → Stays ts (answered c f ts)
+answered-stays Check f ts = stepped-stays ts (Outcome.Plan ts)
+answered-stays Balance f ts = stepped-stays ts (balance ts)
+answered-stays (Step r) f ts = stepped-stays ts (resourceStep f r ts)
+answered-stays Pass f ts = stepped-stays ts (pass f ts)
+answered-stays Settle f ts = settled-stays ts (settle f ts)
+
+pub unless-stays : (k : Checked) (ts : List Task) (x : Result) → Stays ts x → Stays ts (unlessRefused k ts x)
+unless-stays Accepted ts x h = h
+unless-stays (Checked.Refused e) ts x h = λ g. refl
+
+pub call-stays : (c : Call) (f : Frame) (ts : List Task) → Stays ts (callOf c f ts)
+unfolding callOf
+call-stays c f ts =
+    unless-stays (orElse (check f ts) (refuseIf (not (placedIn (resourceCount f) c)) NoSuchResource)) ts (answered c f ts) (answered-stays c f ts)
+
+-- ---- the answer, told in the page's number and values
+pub list-told : (c : Call) (f : Frame) (ts : List Task) (a : Answer) (us : List Task) → record { answer = a; tasks = us } ≡ callOf c f ts → listResult (toldAnswer a) us ≡ listCall c f ts
+unfolding listCall
+list-told c f ts a us e = ap (λ (x : Result). listResult (toldAnswer (x .answer)) (x .tasks)) e

@@ -12,12 +12,12 @@ use lib.Signed.{_≤ℤ_}
 use borrow.Author.Tests.{ltb-false, eqb-false, not-false}
 use Rattle.integers.specs.Tests.{or, all}
 use Rattle.integers.proofs.Tests.{or-none}
-use Rattle.integers.specs.Hull.{Range, within}
+use Rattle.integers.specs.Hull.{Range, within, Sub}
 use Rattle.integers.specs.Ends.{InEnds, Within}
 use Rattle.integers.specs.Lists.{Each}
 use Rattle.integers.specs.Lists.Each.{nothing, also}
 use Rattle.integers.proofs.Z.{z}
-use Rattle.integers.proofs.Hull.{Sub, within-is}
+use Rattle.integers.proofs.Hull.{within-is}
 use Rattle.integers.proofs.Lists.{each-so}
 use Rattle.plan.specs.declared.Task.{Task}
 use Rattle.plan.specs.declared.Resource.{Resource}
@@ -37,8 +37,9 @@ use Rattle.rules.specs.Rises.{Banded}
 use Rattle.rules.proofs.Bands.{check-few, check-all, check-banded, limit-ends}
 use Rattle.rules.proofs.Fits.{task-fits-is, fits-wide, bounded-in, set-fits-in}
 use Rattle.rules.proofs.Live.{Live, Lives, live-fits}
-use Rattle.rules.proofs.Subs.{SubTask, Subs, subs-length}
-use Rattle.rules.proofs.Subs.Subs.{no-subs, more-subs}
+use Rattle.rules.proofs.Subs.{subs-length}
+use Rattle.rules.specs.Keeps.{SubTask, Subs}
+use Rattle.rules.specs.Keeps.Subs.{no-subs, more-subs}
 
 -- ---- one check after another
 no-refusal : {P : Type 0} (f : Refusal) → Refused f ≡ Accepted → P

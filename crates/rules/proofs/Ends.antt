@@ -1,22 +1,24 @@
 -- Settling ends: each pass but the last takes some room away, so there is at most one pass more than there is room, and a pass that
 -- finds no plan comes within as many.
-use mathlib.Core.Path.{_≡_, refl, ap, _∙_}
+use mathlib.Core.Path.{_≡_, refl, sym, ap, _∙_, subst}
 use Prim.Native.Nat.{ℕ, zero, suc, _+_, _≤_, _<_}
 use native.Mathlib.Omega.{arith}
+use mathlib.Core.Bool.{true, false}
 use mathlib.Core.List.{List}
-use Rattle.integers.proofs.Tests.{if-case}
+use Rattle.integers.proofs.Tests.{by-cases, if-case}
 use Rattle.plan.specs.declared.Task.{Task}
 use Rattle.rules.specs.Frame.{Frame}
 use Rattle.rules.specs.Balance.{Outcome}
 use Rattle.rules.specs.Balance.Outcome.{NoPlan, Plan}
 use Rattle.rules.specs.Settle.{then, pass, sameTasks, Settled, onePassMore, unlessSame, settleWithin, settle, rooms}
 use Rattle.rules.specs.Settle.Settled.{Refused, After, Unsettled}
-use Rattle.rules.specs.Moves.{passes}
+use Rattle.rules.specs.Moves.{passes, Stops}
 use Rattle.rules.specs.Calls.{check}
 use Rattle.plan.specs.declared.Checked.the-variants.{Accepted}
+use Rattle.rules.specs.Keeps.{Keeps}
 use Rattle.rules.proofs.Keeps.{Sound}
 use Rattle.rules.proofs.Passes.{pass-sound}
-use Rattle.rules.proofs.Rooms.{keeps-less}
+use Rattle.rules.proofs.Rooms.{keeps-less, same-tasks-is}
 
 module _ (f : Frame) where
   -- settled after so many passes in a row, or refused by one of them, within b
@@ -65,3 +67,101 @@ module _ (f : Frame) where
   pub settle-ends : (ts : List Task) → check f ts ≡ Accepted → Ended (rooms ts + 1) ts (settle f ts)
   unfolding settle
   settle-ends ts a = ends-within (suc (rooms ts)) ts a (omega arith)
+
+-- ---- settling is a pass, and settling what it left
+module _ (f : Frame) where
+  -- any two bounds above the room give the same
+  same-bound : (n m : ℕ) (ts : List Task) → check f ts ≡ Accepted → rooms ts < n → rooms ts < m → settleWithin n f ts ≡ settleWithin m f ts
+  unfolding settleWithin
+  same-bound zero m ts a h l = absurd (omega arith)
+  same-bound (suc n) zero ts a h l = absurd (omega arith)
+  same-bound (suc n) (suc m) ts a h l = go (pass f ts) (pass-sound f ts a) (same-bound n m)
+    where
+      go : (o : Outcome) → Sound f ts o → ((us : List Task) → check f us ≡ Accepted → rooms us < n → rooms us < m → settleWithin n f us ≡ settleWithin m f us) → unlessSame (settleWithin n f) ts o ≡ unlessSame (settleWithin m f) ts o
+      go NoPlan k g = refl
+      go (Plan us) k g =
+          by-cases (sameTasks ts us) (λ e. rw e)
+          (λ e. let less = keeps-less f ts us a k e in rw (e, g us (k .accepted) (omega arith) (omega arith)))
+
+  module _ (ts : List Task) (a : check f ts ≡ Accepted) where
+    -- the pass finds no plan
+    pub settle-refused : pass f ts ≡ NoPlan → settle f ts ≡ Refused
+    unfolding settle settleWithin
+    settle-refused e = rw e
+
+    -- the pass changes nothing
+    pub settle-last : (us : List Task) → pass f ts ≡ Plan us → sameTasks ts us ≡ true → settle f ts ≡ After 1 us
+    unfolding settle settleWithin
+    settle-last us e s = rw (e, s)
+
+    -- the pass changes something
+    pub settle-more : (us : List Task) → pass f ts ≡ Plan us → sameTasks ts us ≡ false → settle f ts ≡ onePassMore (settle f us)
+    unfolding settle settleWithin
+    settle-more us e s =
+        let k : Keeps f ts us = subst (Sound f ts) e (pass-sound f ts a) in
+        let l = keeps-less f ts us a k s in
+        rw (e, s) (ap onePassMore (same-bound (rooms ts) (suc (rooms us)) us (k .accepted) l (omega arith)))
+
+-- ---- and stops at the first pass that changes nothing
+module _ (f : Frame) where
+  abbrev Stopped : List Task → Settled → Type 0
+  Stopped ts Refused = Unit {0}
+  Stopped ts (After k us) = Stops f ts k us
+  Stopped ts Unsettled = Unit {0}
+
+  same-plan : {vs ws : List Task} → Plan vs ≡ Plan ws → vs ≡ ws
+  same-plan e = cc
+
+  -- the pass before them changed something
+  stops-more : (ts us : List Task) → pass f ts ≡ Plan us → sameTasks ts us ≡ false → (k : ℕ) (ws : List Task) → Stops f us k ws → Stops f ts (suc k) ws
+  unfolding passes
+  stops-more ts us e q k ws h =
+      let some = h .some in
+      record { some = omega arith; reached = first-leaves f ts us k e ∙ h .reached; last = at-last; settled = h .settled; earlier = before }
+    where
+      at-last : (j : ℕ) → suc j ≡ suc k → passes j f ts ≡ Plan ws
+      at-last zero l = let some = h .some in absurd (omega arith)
+      at-last (suc j) l = first-leaves f ts us j e ∙ h .last j (omega arith)
+
+      before : (j : ℕ) → suc j < suc k → (vs xs : List Task) → passes j f ts ≡ Plan vs → pass f vs ≡ Plan xs → sameTasks vs xs ≡ false
+      before zero l vs xs a b =
+          let s : ts ≡ vs = same-plan a in
+          let u : us ≡ xs = same-plan (sym e ∙ ap (pass f) s ∙ b) in
+          subst (λ (x : List Task). sameTasks x xs ≡ false) s (subst (λ (x : List Task). sameTasks ts x ≡ false) u q)
+      before (suc j) l vs xs a b = h .earlier j (omega arith) vs xs (sym (first-leaves f ts us j e) ∙ a) b
+
+  stopped-more : (ts us : List Task) → pass f ts ≡ Plan us → sameTasks ts us ≡ false → (s : Settled) → Stopped us s → Stopped ts (onePassMore s)
+  stopped-more ts us e q Refused h = tt
+  stopped-more ts us e q (After k vs) h = stops-more ts us e q k vs h
+  stopped-more ts us e q Unsettled h = tt
+
+  stopped-once : (ts us : List Task) → pass f ts ≡ Plan us → sameTasks ts us ≡ true → Stops f ts 1 us
+  unfolding passes
+  stopped-once ts us e q =
+      let s = same-tasks-is ts us q in
+      record {
+        some = omega arith;
+        reached = one-pass f ts us e;
+        last = at-first;
+        settled = subst (λ (x : List Task). pass f x ≡ Plan us) s e;
+        earlier = λ j l vs ws a b. absurd (omega arith);
+      }
+    where
+      at-first : (j : ℕ) → suc j ≡ 1 → passes j f ts ≡ Plan us
+      at-first zero l = ap Plan (same-tasks-is ts us q)
+      at-first (suc j) l = absurd (omega arith)
+
+  stopped-within : (n : ℕ) (ts : List Task) → Stopped ts (settleWithin n f ts)
+  unfolding settleWithin
+  stopped-within zero ts = tt
+  stopped-within (suc n) ts = go (pass f ts) refl (stopped-within n)
+    where
+      go : (o : Outcome) → pass f ts ≡ o → ((us : List Task) → Stopped us (settleWithin n f us)) → Stopped ts (unlessSame (settleWithin n f) ts o)
+      go NoPlan e k = tt
+      go (Plan us) e k =
+          if-case (Stopped ts) (sameTasks ts us) (After 1 us) (onePassMore (settleWithin n f us))
+          (λ q. stopped-once ts us e q) (λ q. stopped-more ts us e q (settleWithin n f us) (k us))
+
+  pub settle-stopped : (ts : List Task) (k : ℕ) (us : List Task) → settle f ts ≡ After k us → Stops f ts k us
+  unfolding settle
+  settle-stopped ts k us e = subst (Stopped ts) e (stopped-within (suc (rooms ts)) ts)

@@ -9,10 +9,9 @@ use lib.Dec.{eqb}
 use Rattle.integers.specs.Whole.{larger, smaller}
 use Rattle.integers.specs.Tests.{if, and, or, all, any}
 use Rattle.integers.specs.Sums.{sumOf}
-use Rattle.integers.specs.Hull.{Range, range}
+use Rattle.integers.specs.Hull.{Range, range, Sub}
 use Rattle.integers.proofs.Z.{z, +z, -z, maxz, minz, leZ-in, eqZ-in, negneg}
 use Rattle.integers.proofs.Tests.{clash, by-cases, if-case, same-test, and-first, and-second, not-out, or-left, not-any}
-use Rattle.integers.proofs.Hull.{Sub}
 use Rattle.integers.specs.Ends.{Within}
 use Rattle.plan.specs.declared.Task.{Task}
 use Rattle.plan.specs.declared.Narrowed.{Narrowed}
@@ -41,8 +40,8 @@ use Rattle.rules.proofs.BalanceSound.{balance-stays}
 use Rattle.rules.proofs.AtMostSound.{negatedChoice, holds-at-least, holds-at-most}
 use Rattle.rules.proofs.Live.{Lives}
 use Rattle.integers.specs.Lists.Each.{nothing, also}
-use Rattle.rules.proofs.Subs.{SubTask, Subs}
-use Rattle.rules.proofs.Subs.Subs.{no-subs, more-subs}
+use Rattle.rules.specs.Keeps.{SubTask, Subs}
+use Rattle.rules.specs.Keeps.Subs.{no-subs, more-subs}
 use Rattle.rules.proofs.Shrinks.{Shrunk, balance-shrunk, step-shrunk}
 
 -- ---- what lies inside one choice and has it inside is that choice

@@ -11,7 +11,6 @@ use Rattle.integers.proofs.Tests.{if-case, false-in, same-test, and-first, and-
 use Rattle.plan.specs.declared.Task.{Task}
 use Rattle.rules.specs.Frame.{Frame, resourceCount, isPlace}
 use Rattle.rules.specs.Allowed.{Choice, inside, insideAll, allowed}
-use Rattle.rules.specs.Listing.{plans}
 use Rattle.rules.specs.Balance.{Outcome, balance}
 use Rattle.rules.specs.Balance.Outcome.{NoPlan, Plan}
 use Rattle.rules.specs.Step.{resourceStep}
@@ -25,8 +24,9 @@ use Rattle.rules.proofs.Limits.{allowed-joined, allowed-holds}
 use Rattle.rules.proofs.Stays.{PlanStays}
 use Rattle.rules.proofs.BalanceSound.{balance-stays}
 use Rattle.rules.proofs.AtMostSound.{resource-step-stays}
-use Rattle.rules.proofs.Subs.{SubTask, Subs, subs-self, subs-trans}
-use Rattle.rules.proofs.Subs.Subs.{no-subs, more-subs}
+use Rattle.rules.proofs.Subs.{subs-self, subs-trans}
+use Rattle.rules.specs.Keeps.{SubTask, Subs, Keeps, HoldsNone}
+use Rattle.rules.specs.Keeps.Subs.{no-subs, more-subs}
 use Rattle.rules.proofs.Shrinks.{Shrunk, balance-shrunk, resource-step-shrunk}
 use Rattle.rules.proofs.Checks.{check-live, check-kept}
 use Rattle.rules.proofs.Listings.{plans-kept, plans-none}
@@ -52,20 +52,8 @@ inside-wider (more-subs {u} {t} {us} {ts} s f) (c ∷ cs) h =
     (inside-wider f cs (and-second (inside u c) (insideAll us cs) h))
 
 -- ---- what a step, or some in a row, may answer on ts
--- us has the allowed choices of ts, as choices and as listed, is accepted again and lies inside ts
-pub record Keeps (f : Frame) (ts us : List Task) : Type 0 where
-  pub choices : (cs : List Choice) → allowed f cs ≡ true → insideAll us cs ≡ insideAll ts cs
-  pub same : plans f us ≡ plans f ts
-  pub accepted : check f us ≡ Accepted
-  pub inside : Subs us ts
-
--- no choice inside ts is allowed, and none is listed
-pub record Nothing (f : Frame) (ts : List Task) : Type 0 where
-  pub choices : (cs : List Choice) → allowed f cs ≡ true → insideAll ts cs ≡ false
-  pub none : plans f ts ≡ []
-
 abbrev pub Sound : Frame → List Task → Outcome → Type 0
-Sound f ts NoPlan = Nothing f ts
+Sound f ts NoPlan = HoldsNone f ts
 Sound f ts (Plan us) = Keeps f ts us
 
 pub keeps-then : {f : Frame} {ts us vs : List Task} → Keeps f ts us → Keeps f us vs → Keeps f ts vs
@@ -77,7 +65,7 @@ keeps-then h g =
       inside = subs-trans (g .inside) (h .inside);
     }
 
-pub nothing-then : {f : Frame} {ts us : List Task} → Keeps f ts us → Nothing f us → Nothing f ts
+pub nothing-then : {f : Frame} {ts us : List Task} → Keeps f ts us → HoldsNone f us → HoldsNone f ts
 nothing-then h g = record { choices = λ cs ok. sym (h .choices cs ok) ∙ g .choices cs ok; none = sym (h .same) ∙ g .none }
 
 module _ (f : Frame) where

@@ -23,15 +23,16 @@ pub mod Checks
 pub mod Listings
 pub mod Keeps
 pub mod Passes
-pub mod Calls
 pub mod Wrong
 pub mod FixedSteps
 pub mod FixedPass
 pub mod Rooms
 pub mod Ends
+pub mod Calls
 pub mod Unlisted
 pub mod Elsewhere
 pub mod Sizes
 pub mod Once
 pub mod Theorems
 pub mod Bounds
+pub mod CallTheorems

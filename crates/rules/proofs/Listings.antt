@@ -7,20 +7,20 @@ use mathlib.Core.Bool.{Bool, true, false}
 use lib.IntN.{ℤ, pos, negsuc, sucℤ, _+ℤ_, _-ℤ_}
 use lib.Signed.{leZ, ltZ, _≤ℤ_, _<ℤ_}
 use Rattle.integers.specs.Tests.{and, filter}
-use Rattle.integers.specs.Hull.{Range, within, upFrom, countOf, values}
+use Rattle.integers.specs.Hull.{Range, within, upFrom, countOf, values, Sub}
 use Rattle.integers.proofs.Z.{z, up, dn, +z, -z, sucz}
 use Rattle.integers.proofs.Tests.{by-cases, false-in, and-first, and-second, and-skip, and-follows, filter-append, filter-same, filter-none, filter-filter, filter-map}
-use Rattle.integers.proofs.Hull.{within-is, within-in, count-out, Sub}
+use Rattle.integers.proofs.Hull.{within-is, within-in, count-out}
 use Rattle.plan.specs.declared.Task.{Task}
 use Rattle.plan.specs.Days.{daysOf}
 use Rattle.plan.specs.Powers.{powersOf}
-use Rattle.plan.specs.Sets.{has}
-use Rattle.plan.proofs.Sets.{SubSet}
+use Rattle.plan.specs.Sets.{has, SubSet}
 use Rattle.rules.specs.Frame.{Frame, resourceCount, placesFrom}
 use Rattle.rules.specs.Allowed.{Choice, inside, insideAll, allowed}
 use Rattle.rules.specs.Listing.{cross, FromEnd, FromDuration, FromOrigin, fromEnd, fromDuration, fromOrigin, choice, choices, listing, plans}
-use Rattle.rules.proofs.Subs.{SubTask, Subs, subs-self}
-use Rattle.rules.proofs.Subs.Subs.{no-subs, more-subs}
+use Rattle.rules.proofs.Subs.{subs-self}
+use Rattle.rules.specs.Keeps.{SubTask, Subs}
+use Rattle.rules.specs.Keeps.Subs.{no-subs, more-subs}
 
 -- ---- a test of pairs that is a test of each
 module _ {A B C : Type 0} (f : A → B → C) (p : C → Bool) (a : A → Bool) (b : B → Bool) (h : (x : A) (y : B) → p (f x y) ≡ and (a x) (b y)) where

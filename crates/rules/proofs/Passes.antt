@@ -12,20 +12,17 @@ use Rattle.rules.specs.Balance.Outcome.{NoPlan, Plan}
 use Rattle.rules.specs.Step.{resourceStep}
 use Rattle.rules.specs.Settle.{then, steps, pass, sameTasks, Settled, onePassMore, unlessSame, settleWithin}
 use Rattle.rules.specs.Settle.Settled.{Refused, After, Unsettled}
-use Rattle.rules.specs.Moves.{Move, move, play, passes}
-use Rattle.rules.specs.Moves.Move.{Balance, StepOf}
+use Rattle.rules.specs.Moves.{Move, move, play, onePass, passes, manyPasses}
+use Rattle.rules.specs.Moves.Move.{StepOf}
 use Rattle.rules.specs.Calls.{check}
 use Rattle.plan.specs.declared.Checked.the-variants.{Accepted}
-use Rattle.rules.proofs.Keeps.{Keeps, Nothing, Sound, keeps-then, nothing-then, play-sound}
+use Rattle.rules.proofs.Keeps.{Sound, keeps-then, nothing-then, play-sound}
+use Rattle.rules.specs.Keeps.{Keeps, HoldsNone}
 
 -- ---- a pass
 pub then-same : (o : Outcome) (k k' : List Task → Outcome) → ((us : List Task) → k us ≡ k' us) → then o k ≡ then o k'
 then-same NoPlan k k' h = refl
 then-same (Plan us) k k' h = h us
-
--- balance, then each place
-abbrev pub onePass : Frame → List Move
-onePass f = Balance ∷ map StepOf (places f)
 
 -- the step of a place is a move
 pub move-step : (f : Frame) (r : ℕ) → r < resourceCount f → (ts : List Task) → move f (StepOf r) ts ≡ resourceStep f r ts
@@ -63,10 +60,6 @@ play-append f (m ∷ ms) ns ts =
     then-then NoPlan = refl
     then-then (Plan us) = refl
 
-abbrev pub manyPasses : ℕ → Frame → List Move
-manyPasses zero f = []
-manyPasses (suc k) f = onePass f ++ manyPasses k f
-
 pub passes-play : (k : ℕ) (f : Frame) (ts : List Task) → passes k f ts ≡ play f (manyPasses k f) ts
 unfolding passes play
 passes-play zero f ts = refl
@@ -77,7 +70,7 @@ passes-play (suc k) f ts =
 
 -- ---- settling
 abbrev pub SettledSound : Frame → List Task → Settled → Type 0
-SettledSound f ts Refused = Nothing f ts
+SettledSound f ts Refused = HoldsNone f ts
 SettledSound f ts (After n us) = Keeps f ts us
 SettledSound f ts Unsettled = Unit {0}
 

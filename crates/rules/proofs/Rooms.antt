@@ -20,12 +20,11 @@ use Rattle.rules.specs.Settle.{sameRanges, sameTask, sameTasks, room, ro
 use Rattle.rules.proofs.Live.{Live, Lives}
 use Rattle.integers.specs.Lists.{Each}
 use Rattle.integers.specs.Lists.Each.{nothing, also}
-use Rattle.rules.proofs.Subs.{SubTask, Subs}
-use Rattle.rules.proofs.Subs.Subs.{no-subs, more-subs}
+use Rattle.rules.specs.Keeps.{SubTask, Subs, Keeps}
+use Rattle.rules.specs.Keeps.Subs.{no-subs, more-subs}
 use Rattle.rules.proofs.Checks.{check-live, check-wide}
 use Rattle.rules.specs.Calls.{check}
 use Rattle.plan.specs.declared.Checked.the-variants.{Accepted}
-use Rattle.rules.proofs.Keeps.{Keeps}
 
 -- ---- the same list
 pub record SameRanges (a b : Task) : Type 0 where

@@ -7,12 +7,12 @@ use lib.IntN.{ℤ, _+ℤ_, _-ℤ_, negℤ}
 use lib.Signed.{_≤ℤ_}
 use lib.Dec.{eqb}
 use Rattle.integers.specs.Tests.{and, any}
-use Rattle.integers.specs.Hull.{Range, Left, left}
+use Rattle.integers.specs.Hull.{Range, Left, left, Sub}
 use Rattle.integers.specs.Hull.Left.{Nothing, Some}
 use Rattle.integers.proofs.Z.{z, maxz, minz}
 use Rattle.integers.proofs.Tests.{if-case, any-out}
 use Rattle.integers.proofs.Lists.{each-so}
-use Rattle.integers.proofs.Hull.{Sub, LeftSub, left-sub, LeftFull, left-full}
+use Rattle.integers.proofs.Hull.{LeftSub, left-sub, LeftFull, left-full}
 use Rattle.plan.specs.declared.Task.{Task}
 use Rattle.plan.specs.declared.Value.{Value}
 use Rattle.plan.specs.declared.Value.the-variants.{Origin, Duration, End, Height, Set}
@@ -22,8 +22,8 @@ use Rattle.plan.specs.declared.Sense.{Sense}
 use Rattle.plan.specs.declared.Sense.the-variants.{AtMost, AtLeast}
 use Rattle.plan.specs.Days.{daysOf, cutBelow, cutAbove, cutTo, emptySpan}
 use Rattle.plan.specs.Powers.{powersOf}
-use Rattle.plan.specs.Sets.{has, without}
-use Rattle.plan.proofs.Sets.{SubSet, alone-only, without-has}
+use Rattle.plan.specs.Sets.{has, without, SubSet}
+use Rattle.plan.proofs.Sets.{alone-only, without-has}
 use Rattle.rules.specs.Frame.{Frame, limitOn}
 use Rattle.rules.specs.Balance.{Outcome, andThen, each, cuts, unlessEmpty, balanced, balance}
 use Rattle.rules.specs.Balance.Outcome.{NoPlan, Plan}
@@ -33,8 +33,9 @@ use Rattle.rules.proofs.Live.{Live, Lives, lives-negated}
 use Rattle.integers.specs.Lists.{Each}
 use Rattle.integers.specs.Lists.Each.{nothing, also}
 use Rattle.rules.proofs.TaskDay.{possible-is, needed-possible}
-use Rattle.rules.proofs.Subs.{SubTask, Subs, subs-back}
-use Rattle.rules.proofs.Subs.Subs.{no-subs, more-subs}
+use Rattle.rules.proofs.Subs.{subs-back}
+use Rattle.rules.specs.Keeps.{SubTask, Subs}
+use Rattle.rules.specs.Keeps.Subs.{no-subs, more-subs}
 
 abbrev TaskShrunk : Task → Narrowed → Type 0
 TaskShrunk t (RanOut v) = Unit {0}

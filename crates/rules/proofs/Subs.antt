@@ -3,26 +3,14 @@ use mathlib.Core.Path.{_≡_, refl, ap}
 use Prim.Native.Nat.{suc}
 use mathlib.Core.List.{List, [], _∷_, map}
 use lib.ListN.{length}
-use Rattle.integers.specs.Hull.{Range}
+use Rattle.integers.specs.Hull.{Range, Sub}
 use Rattle.integers.proofs.Z.{z, ~z}
-use Rattle.integers.proofs.Hull.{Sub}
 use Rattle.plan.specs.declared.Task.{Task}
 use Rattle.plan.specs.Days.{daysOf}
 use Rattle.plan.specs.Powers.{powersOf, negatedPowers}
-use Rattle.plan.proofs.Sets.{SubSet}
 use Rattle.rules.specs.Step.{negated}
-
-pub record SubTask (u t : Task) : Type 0 where
-  pub set : SubSet (u .set) (t .set)
-  pub origin : Sub (daysOf (u .origin)) (daysOf (t .origin))
-  pub duration : Sub (daysOf (u .duration)) (daysOf (t .duration))
-  pub end : Sub (daysOf (u .end)) (daysOf (t .end))
-  pub height : Sub (powersOf (u .height)) (powersOf (t .height))
-
--- each new range lies inside the old one
-pub data Subs : List Task → List Task → Type 0 where
-  no-subs : Subs [] []
-  more-subs : {u t : Task} {us ts : List Task} → SubTask u t → Subs us ts → Subs (u ∷ us) (t ∷ ts)
+use Rattle.rules.specs.Keeps.{SubTask, Subs}
+use Rattle.rules.specs.Keeps.Subs.{no-subs, more-subs}
 
 pub sub-self : (t : Task) → SubTask t t
 sub-self t = record { set = λ k e. e; origin = omega z; duration = omega z; end = omega z; height = omega z }

@@ -28,7 +28,7 @@ case7 = getD pageCases 8 noCase
 case7-settles : callOf Settle (case7 .frame) (case7 .tasks) ≡ case7 .result
 case7-settles = ap (λ (xs : List Result). getD xs 8 (done 0 [])) page-cases
 
-case9-settles : callOf Settle case9Frame case9Before ≡ done 3 case9After
+pub case9-settles : callOf Settle case9Frame case9Before ≡ done 3 case9After
 case9-settles = ap (λ (xs : List Result). getD xs 10 (done 0 [])) page-cases
 
 case9-steps : callOf (Step 0) case9Frame case9Before ≡ done 0 case9Stepped

@@ -20,6 +20,7 @@ use Rattle.plan.specs.declared.Call.{Call}
 use Rattle.plan.specs.declared.Call.the-variants.{Check, Balance, Step, Pass, Settle}
 use Rattle.plan.specs.declared.Answer.{Answer}
 use Rattle.plan.specs.declared.Answer.the-variants.{Done, Refused}
+use Rattle.plan.specs.Refusals.{Told, toldAnswer}
 use Rattle.plan.specs.Days.{daysOf, dayEnds, durationEnds}
 use Rattle.plan.specs.Powers.{powersOf, powerEnds}
 use Rattle.plan.specs.Tasks.{mostTasks, mostResources, mostBands}
@@ -147,7 +148,23 @@ unfoldable pub callOf : Call → Frame → List Task → Result
 callOf c f ts =
     unlessRefused (orElse (check f ts) (refuseIf (not (placedIn (resourceCount f) c)) NoSuchResource)) ts (answered c f ts)
 
--- what a call answers and leaves, of tasks ts that entered and tasks us that the engine's own rows hold now: a refusal leaves ts, whatever these
+-- ---- the calls over lent lists: the answer in this paper's number and values, and what the lent tasks hold later
+pub record ListResult : Type 0 where
+  pub answer : Told
+  pub tasks : List Task
+
+abbrev pub listResult : Told → List Task → ListResult
+listResult a ts = record { answer = a; tasks = ts }
+
+unfoldable pub listCall : Call → Frame → List Task → ListResult
+listCall c f ts = listResult (toldAnswer (callOf c f ts .answer)) (callOf c f ts .tasks)
+
+-- calls in a row, each on the tasks that the one before left
+unfoldable pub listCalls : List Call → Frame → List Task → List Task
+listCalls [] f ts = ts
+listCalls (c ∷ cs) f ts = listCalls cs f (listCall c f ts .tasks)
+
+-- ---- what a call answers and leaves, of tasks ts that entered and tasks us that the engine's own rows hold now: a refusal leaves ts, whatever these
 -- rows hold, for nothing of them is stored then
 abbrev pub resultOf : Answer → List Task → List Task → Result
 resultOf (Done n) ts us = done n us

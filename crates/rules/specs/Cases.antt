@@ -1,5 +1,6 @@
 -- "Days tried on both sides": cases 1 to 9 of the page, and more, each with its answer as the page prints it or as worked out by hand.
-use Prim.Native.Nat.{ℕ}
+use Prim.Native.Nat.{ℕ, zero, suc}
+use lib.ListN.{replicate}
 use mathlib.Core.List.{List, [], _∷_, _++_}
 use lib.IntN.{ℤ, pos, negsuc}
 use Rattle.integers.specs.Hull.{Range, range}
@@ -8,8 +9,8 @@ use Rattle.plan.specs.declared.Resource.{Resource}
 use Rattle.plan.specs.declared.Sense.{Sense}
 use Rattle.plan.specs.declared.Sense.the-variants.{AtMost, AtLeast}
 use Rattle.plan.specs.declared.Call.{Call}
-use Rattle.plan.specs.declared.Call.the-variants.{Step, Pass, Settle}
-use Rattle.plan.specs.declared.Refusal.the-variants.{ResourceCount, RepeatedIdentifier, LimitOutside, RangeOutside, SetOutside, NoPlan}
+use Rattle.plan.specs.declared.Call.the-variants.{Check, Balance, Step, Pass, Settle}
+use Rattle.plan.specs.declared.Refusal.the-variants.{TooManyTasks, ResourceCount, RepeatedIdentifier, LimitOutside, RangeOutside, SetOutside, NoPlan}
 use Rattle.plan.specs.Days.{spanOf}
 use Rattle.plan.specs.Powers.{power, powerSpanOf}
 use Rattle.rules.specs.Frame.{Frame, plain}
@@ -121,6 +122,10 @@ needsFirstOthers =
     task 1 (range (pos 0) (pos 3)) (one (pos 1)) (range (pos 1) (pos 4)) (one (pos 2))
     ∷ task 1 (range (pos 5) (pos 6)) (one (pos 2)) (range (pos 7) (pos 8)) (one (pos 1)) ∷ []
 
+abbrev crews : ℕ → List Resource
+crews zero = []
+crews (suc n) = resource (pos n) (pos 0) ∷ crews n
+
 abbrev pub ownCases : List Case
 ownCases =
     -- a negative height does not count while the task may still go elsewhere: B leaves the first resource, and A stands
@@ -173,4 +178,41 @@ ownCases =
       tasks = needsFirstOthers ++ task 1 (range (pos 0) (pos 6)) (one (pos 3)) (range (pos 3) (pos 9)) (one (pos 1)) ∷ [];
       result = done 0 (needsFirstOthers ++ here (pos 5) (pos 3) (pos 8) (pos 1) ∷ []);
     }
+    -- balance alone, in three tasks: each of the six cuts
+    ∷ record {
+      call = Balance;
+      frame = plain AtLeast (limit (pos 0));
+      tasks = task 1 (range (pos 0) (pos 20)) (one (pos 2)) (range (pos 10) (pos 12)) (one (pos 0)) ∷ task 1 (one (pos 5)) (range (pos 2) (pos 3)) (range (pos 0) (pos 20)) (one (pos 0)) ∷ task 1 (range (pos 5) (pos 6)) (range (pos 0) (pos 100)) (range (pos 10) (pos 12)) (one (pos 0)) ∷ [];
+      result = done 0 (task 1 (range (pos 8) (pos 10)) (one (pos 2)) (range (pos 10) (pos 12)) (one (pos 0)) ∷ task 1 (one (pos 5)) (range (pos 2) (pos 3)) (range (pos 7) (pos 8)) (one (pos 0)) ∷ task 1 (range (pos 5) (pos 6)) (range (pos 4) (pos 7)) (range (pos 10) (pos 12)) (one (pos 0)) ∷ []);
+    }
+    -- duration after a barred day
+    ∷ record {
+      call = Step 0;
+      frame = plain AtLeast (limit (negsuc 0));
+      tasks = here (pos 2) (pos 1) (pos 3) (negsuc 0) ∷ task 1 (range (pos 2) (pos 6)) (range (pos 1) (pos 9)) (range (pos 3) (pos 8)) (one (negsuc 0)) ∷ [];
+      result = done 0 (here (pos 2) (pos 1) (pos 3) (negsuc 0) ∷ task 1 (range (pos 3) (pos 6)) (range (pos 1) (pos 5)) (range (pos 4) (pos 8)) (one (negsuc 0)) ∷ []);
+    }
+    -- list order
+    ∷ record {
+      call = Pass;
+      frame = plain AtLeast (two (pos 5) (pos 2));
+      tasks = task 3 (one (pos 0)) (one (pos 1)) (one (pos 1)) (range (pos 0) (pos 4)) ∷ [];
+      result = done 0 (task 2 (one (pos 0)) (one (pos 1)) (one (pos 1)) (range (pos 2) (pos 4)) ∷ []);
+    }
+    -- a sure task, unbalanced, is needed too
+    ∷ record {
+      call = Step 0;
+      frame = plain AtLeast (limit (pos 3));
+      tasks = task 1 (range (pos 0) (pos 2)) (one (pos 1)) (range (pos 3) (pos 9)) (one (pos 3)) ∷ [];
+      result = done 0 (task 1 (one (pos 2)) (one (pos 1)) (one (pos 3)) (one (pos 3)) ∷ []);
+    }
+    -- height under a limit below 0
+    ∷ settles AtLeast (limit (negsuc 2)) (task 1 (one (pos 0)) (one (pos 1)) (one (pos 1)) (range (negsuc 4) (negsuc 0)) ∷ []) 2 (task 1 (one (pos 0)) (one (pos 1)) (one (pos 1)) (range (negsuc 2) (negsuc 0)) ∷ [])
+    -- 3 of no neighbours; 4 of two, the first
+    ∷ refuses AtLeast (two (pos 0) (pos 0) ++ resource (pos 7) (pos 0) ∷ []) [] (refused (RepeatedIdentifier 2) [])
+    ∷ refuses AtLeast (two (pos 1000001) (pos 1000001)) [] (refused (LimitOutside 0) [])
+    -- 1 and 2 at their ends
+    ∷ record { call = Check; frame = plain AtLeast (crews 16); tasks = replicate 256 (here (pos 0) (pos 0) (pos 0) (pos 0)); result = done 0 (replicate 256 (here (pos 0) (pos 0) (pos 0) (pos 0))) }
+    ∷ record { call = Check; frame = plain AtLeast (crews 17); tasks = []; result = refused ResourceCount [] }
+    ∷ record { call = Check; frame = plain AtLeast []; tasks = replicate 257 (here (pos 0) (pos 0) (pos 0) (pos 0)); result = refused TooManyTasks (replicate 257 (here (pos 0) (pos 0) (pos 0) (pos 0))) }
     ∷ []

@@ -8,6 +8,7 @@ pub mod Settle
 pub mod Moves
 pub mod Fixed
 pub mod Calls
+pub mod Keeps
 pub mod Rises
 pub mod Negation
 pub mod Cases

@@ -1,9 +1,12 @@
--- The allowed plans inside a plan's ranges, by plain listing: every choice of every task, filtered. "Two plans are the same if all five values of all tasks are."
+-- The allowed plans inside a plan's ranges, by plain listing: every choice of every task, filtered.
 use Prim.Native.Nat.{ℕ}
 use mathlib.Core.List.{List, [], _∷_, _++_, map}
+use mathlib.Core.Bool.{Bool, true, false}
 use lib.IntN.{ℤ}
+use lib.Dec.{eqb}
 use lib.ListN.{length}
-use Rattle.integers.specs.Tests.{filter}
+use Rattle.integers.specs.Whole.{eqZ}
+use Rattle.integers.specs.Tests.{and, filter}
 use Rattle.integers.specs.Hull.{values}
 use Rattle.plan.specs.declared.Task.{Task}
 use Rattle.plan.specs.Days.{daysOf}
@@ -51,6 +54,19 @@ choices n t =
 unfoldable pub listing : ℕ → List Task → List (List Choice)
 listing n [] = [] ∷ []
 listing n (t ∷ ts) = cross (λ c cs. c ∷ cs) (choices n t) (listing n ts)
+
+-- "Two plans are the same if all five values of all tasks are."
+unfoldable pub sameChoice : Choice → Choice → Bool
+sameChoice c d =
+    and (eqb (c .resource) (d .resource))
+    (and (eqZ (c .origin) (d .origin))
+    (and (eqZ (c .duration) (d .duration)) (and (eqZ (c .end) (d .end)) (eqZ (c .height) (d .height)))))
+
+unfoldable pub samePlan : List Choice → List Choice → Bool
+samePlan [] [] = true
+samePlan [] (d ∷ ds) = false
+samePlan (c ∷ cs) [] = false
+samePlan (c ∷ cs) (d ∷ ds) = and (sameChoice c d) (samePlan cs ds)
 
 unfoldable pub plans : Frame → List Task → List (List Choice)
 plans f ts = filter (allowed f) (listing (resourceCount f) ts)

@@ -20,7 +20,7 @@ pub fn read_bands(file: &[u8], from: usize, b: &mut [BandRow]) -> Run
     let mut k: usize = 0;
     while c.stands_before(Mark::LB, file) {
         let at = c.at;
-        let got = c.next_due(Mark::LB, file);
+        let got = reader::next_due_at(file, c, Mark::LB);
         let Record::Band(band, past) = got else {
             return Run::Refused(Refusal::CutShort(at));
         };

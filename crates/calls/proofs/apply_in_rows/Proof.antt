@@ -15,7 +15,7 @@ use Rattle.format.specs.declared.Run.{Run}
 use Rattle.format.specs.Format.{senseFrom}
 use Rattle.format.specs.Reading.{readAfter, readThrough, headerPlan}
 use Rattle.format.proofs.Files.{after-is}
-use Rattle.calls.specs.Files.{fileResult, afterRead, planFile}
+use Rattle.answers.specs.Files.{fileResult, afterRead, planFile}
 use borrow.Author.Needs.{needs}
 use Rattle.calls.proofs.apply_in_rows.Statement.{statement}
 use Rattle.calls.proofs.apply_in_rows.Tie as tie

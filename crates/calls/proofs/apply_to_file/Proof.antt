@@ -4,7 +4,7 @@ use Prim.Native.Nat.{ℕ}
 use Rattle.format.specs.declared.HeaderAnswer.{HeaderAnswer}
 use Rattle.format.specs.Reading.{planAfter, readPlan}
 use Rattle.format.proofs.Files.{header-few}
-use Rattle.calls.specs.Files.{fileResult, afterRead, fileCall}
+use Rattle.answers.specs.Files.{fileResult, afterRead, fileCall}
 use borrow.Author.Needs.{needs}
 use Rattle.calls.proofs.apply_to_file.Statement.{statement}
 use Rattle.calls.proofs.apply_to_file.Tie as tie

@@ -19,7 +19,7 @@ use Rattle.rows.specs.View.{tasksOf, resourcesOf, bandsOf, frameOf}
 use Rattle.rows.proofs.View.{length-tasks, length-bands, length-resources}
 use Rattle.format.specs.Format.{fileLength}
 use Rattle.format.specs.Writing.{written, laid, roomFor}
-use Rattle.calls.specs.Files.{fileResult, lentDue}
+use Rattle.answers.specs.Files.{fileResult, lentDue}
 use Rattle.calls.proofs.Files.{lent-is, lent-rows, plan-unlent, plan-lent}
 use borrow.Author.Needs.{needs}
 use Rattle.calls.proofs.apply_to_plan.Statement.{statement}
@@ -51,9 +51,6 @@ module _ (c : tie.After-check-lent) where
   module _ (e : c .check-lent .result ≡ Accepted) where
     room : (placedIn (length (start .args .q .now)) (start .args .c) ≡ true) × (roomFor (fileLength (length (start .args .q .now)) (length (start .args .b .now)) (length (start .args .s .now))) (length (start .args .out .now)) ≡ Accepted)
     room = lent-is (start .args .c) (length (start .args .q .now)) (fileLength (length (start .args .q .now)) (length (start .args .b .now)) (length (start .args .s .now))) (length (start .args .out .now)) (sym (c .check-lent .ensures) ∙ e)
-
-    placed : placedIn (resourceCount (f start)) (start .args .c) ≡ true
-    placed = rw (length-resources (start .args .q .now)) (room .0)
 
 enum-known-f : tie.Need-enum-known-f
 enum-known-f c = search needs
@@ -104,7 +101,7 @@ module _ (c : tie.After-apply) where
     left-accepted : check (frameOf (first .args .sense) (c .apply .last .1 .1 .0) (c .apply .last .1 .1 .1 .0)) us ≡ Accepted
     left-accepted =
         rw (restored .0, restored .1)
-        (call-keeps (f first) (ts first) us n (first .args .c) (accepted first) (placed lent (told .enum-told .given .1)) (sym (call-is (Answer.Done n) e)) .accepted)
+        (call-keeps (f first) (ts first) (first .args .c) n us (accepted first) (sym (call-is (Answer.Done n) e)) .accepted)
 
 put-plan-requires : tie.Need-put-plan-requires
 put-plan-requires c κs =

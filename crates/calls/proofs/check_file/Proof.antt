@@ -5,7 +5,7 @@ use Rattle.format.specs.declared.HeaderAnswer.{HeaderAnswer}
 use Rattle.format.specs.declared.Run.{Run}
 use Rattle.format.specs.Reading.{Read, readThrough, headerPlan, planAfter, readPlan}
 use Rattle.format.proofs.Files.{header-few}
-use Rattle.calls.specs.Files.{readNumber, checkFile}
+use Rattle.answers.specs.Files.{readNumber, checkFile}
 use borrow.Author.Needs.{needs}
 use Rattle.calls.proofs.check_file.Statement.{statement}
 use Rattle.calls.proofs.check_file.Tie as tie

@@ -2,7 +2,7 @@
 use mathlib.Core.Path.{sym, _∙_}
 use mathlib.Core.Bool.{false, not}
 use Rattle.integers.proofs.Tests.{not-out}
-use Rattle.calls.specs.Files.{lentDue}
+use Rattle.answers.specs.Files.{lentDue}
 use borrow.Author.Needs.{needs}
 use borrow.Author.Tests.{not-false}
 use Rattle.calls.proofs.check_lent.Statement.{statement}

@@ -1,6 +1,6 @@
 -- Thirteen numbers times 2^32, and a place below 2^32, fit.
 use native.Mathlib.Omega.{arith}
-use Rattle.calls.proofs.Files.{number-small}
+use Rattle.plan.proofs.Refusals.{number-ends}
 use borrow.Author.Needs.{needs}
 use Rattle.calls.proofs.refusal_number.Statement.{statement}
 use Rattle.calls.proofs.refusal_number.Tie as tie
@@ -9,13 +9,13 @@ number-requires : tie.Need-number-requires
 number-requires c κs = search needs
 
 mul-result : tie.Need-mul-result
-mul-result c = omega (arith, c .number .ensures, number-small (c .before .args .f))
+mul-result c = omega (arith, c .number .ensures, number-ends (c .before .args .f))
 
 place-requires : tie.Need-place-requires
 place-requires c κs = search needs
 
 add-result : tie.Need-add-result
-add-result c = omega (arith, c .before .number .ensures, number-small (c .before .before .args .f))
+add-result c = omega (arith, c .before .number .ensures, number-ends (c .before .before .args .f))
 
 returns : tie.Need-returns
 returns c = search needs

@@ -12,7 +12,6 @@ use Rattle.rules.specs.Frame.{Frame}
 use Rattle.rules.specs.Calls.{check, callOf, resultOf, placedIn}
 use Rattle.rules.proofs.Calls.{call-keeps}
 use Rattle.rows.specs.View.{tasksOf, resourcesOf, bandsOf, frameOf, atLeast}
-use Rattle.rows.proofs.View.{length-resources}
 use Rattle.negation.specs.Senses.{tasksFor, resourcesFor, bandsFor, resultFor}
 use Rattle.negation.proofs.Senses.{call-for, call-back, resources-twice, bands-twice}
 use Rattle.engine.proofs.Calls.{accepted-for}
@@ -95,7 +94,7 @@ negate-for-requires-2 c κs =
     let n = m .n .given in
     let q = e .negate-for .last .1 .0 in
     let vs = tasksOf (e .negate-for .last .1 .1 .1 .0) in
-    call-keeps (atLeast q (e .negate-for .last .1 .1 .0)) vs (us d) (n .0 .0) (first d .args .c) (for-accepted e) (rw (length-resources q) (for-placed e))
+    call-keeps (atLeast q (e .negate-for .last .1 .1 .0)) vs (first d .args .c) (n .0 .0) (us d) (for-accepted e)
     (sym (d .apply-at-least .ensures) ∙ ap (λ (a : Answer). resultOf a vs (us d)) (n .1)) .accepted
 
 same-length : tie.Need-same-length

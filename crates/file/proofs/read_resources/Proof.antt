@@ -25,8 +25,8 @@ abbrev μ-loop : tie.MeasureT-loop
 loop-holds : tie.Need-loop-holds Inv-loop μ-loop
 loop-holds c = let a = c .before .args in (refl, reading-starts resources (a .file .now) (size PL) (a .h .resources) (resourcesOf (a .q .now)))
 
-next-due-requires : tie.Need-next-due-requires Inv-loop μ-loop
-next-due-requires c κs = search needs
+next-due-at-requires : tie.Need-next-due-at-requires Inv-loop μ-loop
+next-due-at-requires c κs = search needs
 
 enum-known-got : tie.Need-enum-known-got Inv-loop μ-loop
 enum-known-got c = c .match .keys1
@@ -42,7 +42,7 @@ unfolding recordAt
 returns c =
     let l = c .before .before .before .before .before .loop in
     let at = l .c .at in
-    let d = refused at (drop at (c .before .before .before .before .before .before .before .args .file .now)) (c .before .before .next-due .ensures) RS (0 ∷ 2 ∷ 3 ∷ 4 ∷ 5 ∷ 6 ∷ []) tt (c .before .match .keys2) in
+    let d = refused at (drop at (c .before .before .before .before .before .before .before .args .file .now)) (c .before .before .next-due-at .ensures) RS (0 ∷ 2 ∷ 3 ∷ 4 ∷ 5 ∷ 6 ∷ []) tt (c .before .match .keys2) in
     reading-refused (l .inv .1) (omega arith) (rw (c .not-due .ensures) d)
 
 put-resource-requires : tie.Need-put-resource-requires Inv-loop μ-loop
@@ -61,7 +61,7 @@ loop-again c =
     let at = l .c .at in
     let got = c .before .before .before .before .got .given in
     let put = c .before .put-resource in
-    let w = resource-taken at (drop at (c .before .before .before .before .before .before .before .before .before .before .before .args .file .now)) (c .before .before .before .before .before .before .next-due .ensures) (got .1) in
+    let w = resource-taken at (drop at (c .before .before .before .before .before .before .before .before .before .before .before .args .file .now)) (c .before .before .before .before .before .before .next-due-at .ensures) (got .1) in
     let e = put .ensures ∙ ap (set (resourcesOf (l .q)) (l .i)) (w .1) in (
       omega (arith, length-resources (put .last .0), length-resources (l .q), ap length (put .ensures), length-set (resourcesOf (l .q)) (l .i) (got .0 .0)),
       rw (w .2) (reading-goes-on (l .inv .1) (omega arith) (w .0) e),
@@ -82,7 +82,7 @@ read-resources-spec =
     Inv-loop
     μ-loop
     loop-holds
-    next-due-requires
+    next-due-at-requires
     enum-known-got
     not-due-requires
     same-length

@@ -28,8 +28,8 @@ tasks-from-requires c κs = search needs
 loop-holds : tie.Need-loop-holds Inv-loop μ-loop
 loop-holds c = let a = c .before .before .args in (refl, rw (c .tasks-from .ensures) (reading-starts (tasks (a .h .resources)) (a .file .now) (tasksFrom (a .h .resources) (a .bands)) (a .h .tasks) (tasksOf (a .s .now))))
 
-next-due-requires : tie.Need-next-due-requires Inv-loop μ-loop
-next-due-requires c κs = search needs
+next-due-at-requires : tie.Need-next-due-at-requires Inv-loop μ-loop
+next-due-at-requires c κs = search needs
 
 enum-known-got : tie.Need-enum-known-got Inv-loop μ-loop
 enum-known-got c = c .match .keys1
@@ -45,7 +45,7 @@ unfolding recordAt
 returns c =
     let l = c .before .before .before .before .before .loop in
     let at = l .c .at in
-    let d = refused at (drop at (c .before .before .before .before .before .before .before .before .args .file .now)) (c .before .before .next-due .ensures) TK (0 ∷ 1 ∷ 2 ∷ 4 ∷ 5 ∷ 6 ∷ []) tt (c .before .match .keys2) in
+    let d = refused at (drop at (c .before .before .before .before .before .before .before .before .args .file .now)) (c .before .before .next-due-at .ensures) TK (0 ∷ 1 ∷ 2 ∷ 4 ∷ 5 ∷ 6 ∷ []) tt (c .before .match .keys2) in
     reading-refused (l .inv .1) (omega arith) (rw (c .not-due .ensures) d)
 
 put-task-requires : tie.Need-put-task-requires Inv-loop μ-loop
@@ -64,7 +64,7 @@ loop-again c =
     let at = l .c .at in
     let got = c .before .before .before .before .got .given in
     let put = c .before .put-task in
-    let w = task-taken at (drop at (c .before .before .before .before .before .before .before .before .before .before .before .before .args .file .now)) (c .before .before .before .before .before .before .next-due .ensures) (got .1) in
+    let w = task-taken at (drop at (c .before .before .before .before .before .before .before .before .before .before .before .before .args .file .now)) (c .before .before .before .before .before .before .next-due-at .ensures) (got .1) in
     let e = put .ensures ∙ ap (set (tasksOf (l .s)) (l .i)) (w .1) in (
       omega (arith, length-tasks (put .last .0), length-tasks (l .s), ap length (put .ensures), length-set (tasksOf (l .s)) (l .i) (got .0 .0)),
       rw (w .2) (reading-goes-on (l .inv .1) (omega arith) (w .0) e),
@@ -86,7 +86,7 @@ read-tasks-spec =
     μ-loop
     tasks-from-requires
     loop-holds
-    next-due-requires
+    next-due-at-requires
     enum-known-got
     not-due-requires
     same-length

@@ -58,7 +58,7 @@ use Rattle.rules.specs.Frame.{framed}
 use Rattle.rules.specs.Calls.{callOf}
 use Rattle.arrays.specs.Applies.{Applies, left}
 use Rattle.arrays.proofs.Loaded.{loaded-held}
-use Rattle.lists.specs.Calls.{result}
+use Rattle.rules.proofs.Calls.{list-told}
 use Rattle.copies.proofs.Tasks as Ts
 use Rattle.copies.proofs.Tasks.Laws as Ts′
 use Rattle.copies.proofs.Resources as Qs
@@ -182,7 +182,7 @@ module _ {M : Type 1} (𝓤 : URA M) (H : Heap 𝓤) (A : Atoms 𝓤) (W : Given
         exits r v zs g ga f l =
             qed W (‵ (flft κ₀ q₀) ∷ ‵ (flft κ₁ q₁) ∷ ‵ (flft κ₂ q₂) ∷ ‵ (ShrSlice (named 0) κ₀ Q.the-row .own refQ (s₀ ∷ [])) ∷ ‵ (ShrSlice (named 1) κ₁ B.the-row .own refB (s₁ ∷ [])) ∷ ‵ (finally T.the-row γ zs) ∷ []) ∵
             suffices ! _ (ends-at 𝓤 H A apply.ended stayed (apply.clauses 𝓤 H A mem run) W (((κ₀, (κ₁, (κ₂, tt))), (q₀, (q₁, (q₂, tt))), tt, x, at), tt) v (r .answer) (tt, (tt, (tt, (tt, (zs, tt))))) (tt, (tt, (tt, (tt, (l, tt)))))) $
-            says ! (ap (result (r .answer)) f ∙ told r g .2) $
+            says ! (list-told c (framed e qs bs) ts (r .answer) zs (ap (λ (us : List Task). record { answer = r .answer; tasks = us }) f ∙ told r g .2)) $
             nothing ! $ move ! (3 ∷ 0 ∷ []) $ join ! $ move ! (2 ∷ 0 ∷ []) $ join ! $ move ! (1 ∷ 0 ∷ []) $ join ! $ frame ! $ nothing ! $ move ! (3 ∷ 0 ∷ []) $ fjoin ! $ move ! (2 ∷ 0 ∷ []) $ fjoin ! $ move ! (1 ∷ 0 ∷ []) $ fjoin ! $
             owned ! S.the-row (Is S.the-row) (EL.makes S.the-type S′.the-plain 𝓤 H A) e _ ge $ fjoin ! $ owned ! C″.the-row (Is C″.the-row) (EL.makes C″.the-type C′.the-plain 𝓤 H A) c _ gc $ fjoin ! $ frame ! $
             owned ! A″.the-row (Is A″.the-row) (EL.makes A″.the-type A′.the-plain 𝓤 H A) (r .answer) _ ga $ done !

@@ -37,7 +37,7 @@ taken : (c : tie.After-known-told Inv-loop μ-loop) → let l = c .before .befor
 unfolding recordAt
 taken c =
     let l = c .before .before .before .before .before .before in
-    band-taken (l .loop .c .at) (rest l) (c .before .before .before .next-due .ensures) (c .before .got .given .1)
+    band-taken (l .loop .c .at) (rest l) (c .before .before .before .next-due-at .ensures) (c .before .got .given .1)
 
 loop-holds : tie.Need-loop-holds Inv-loop μ-loop
 loop-holds c = let a = c .before .args in (refl, going-starts (a .file .now) (a .from) (bandsOf (a .b .now)))
@@ -45,8 +45,8 @@ loop-holds c = let a = c .before .args in (refl, going-starts (a .file .now) (a 
 stands-before-requires : tie.Need-stands-before-requires Inv-loop μ-loop
 stands-before-requires c κs = search needs
 
-next-due-requires : tie.Need-next-due-requires Inv-loop μ-loop
-next-due-requires c κs = search needs
+next-due-at-requires : tie.Need-next-due-at-requires Inv-loop μ-loop
+next-due-at-requires c κs = search needs
 
 enum-known-got : tie.Need-enum-known-got Inv-loop μ-loop
 enum-known-got c = c .match .keys1
@@ -61,7 +61,7 @@ returns c =
     let l = c .before .before .before .before in
     let at = l .loop .c .at in
     let b₀ = l .before .before .args .b .now in
-    let d = refused at (rest l) (c .before .next-due .ensures) LB (0 ∷ 1 ∷ 3 ∷ 4 ∷ 5 ∷ 6 ∷ []) tt (c .match .keys2) in
+    let d = refused at (rest l) (c .before .next-due-at .ensures) LB (0 ∷ 1 ∷ 3 ∷ 4 ∷ 5 ∷ 6 ∷ []) tt (c .match .keys2) in
     (rw (← length-bands b₀) (going-refused (l .loop .inv .1) m (short-due (length (bandsOf b₀)) (l .loop .k) at (rest l) m d)), tt)
 
 same-length-2 : tie.Need-same-length-2 Inv-loop μ-loop
@@ -134,7 +134,7 @@ read-bands-spec =
     μ-loop
     loop-holds
     stands-before-requires
-    next-due-requires
+    next-due-at-requires
     enum-known-got
     same-length
     returns

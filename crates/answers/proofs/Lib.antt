@@ -1,0 +1,4 @@
+-- What follows of the calls on plan files.
+pub mod Answers
+pub mod FileTheorems
+pub mod GoesOn

@@ -1,0 +1,3 @@
+-- What the calls on plan files answer and leave.
+pub mod Files
+pub mod Outcomes

@@ -1,2 +1,0 @@
--- What the calls over lent lists promise.
-pub mod Calls

@@ -1,0 +1,2 @@
+-- What the reader's theorem cites.
+pub mod Walking
