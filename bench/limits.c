@@ -8,12 +8,17 @@
 #include <time.h>
 
 enum { STACK = 1 << 20, PAINT = 0x5a };
+enum { AT_MOST = 1000 }; /* the passes that settling within is given */
+
+/* The calls as they stand in a line. */
+enum call { CHECK, MOST_PASSES, BALANCE, RESOURCE_STEP, PASS, SETTLE_WITHIN, SETTLE, CALLS };
+static const char *const called[CALLS] = {"check", "most", "balance", "step", "pass", "within", "settle"};
 
 struct work {
     uint8_t file[GRISTWALTZ_LONGEST_FILE], out[GRISTWALTZ_LONGEST_FILE];
     size_t length;
     unsigned calls;
-    char call;
+    enum call call;
     const uint8_t *top;
     uint64_t answer;
     double microseconds;
@@ -31,10 +36,12 @@ static void *work(void *given) {
     w->top = __builtin_frame_address(0); /* what the thread took before this is not the calls' */
     w->microseconds = -now(); /* timed inside the thread, whose start may wait for a processor */
     for (unsigned k = 0; k < w->calls; k++) switch (w->call) {
-        case 'c': w->answer = gristwaltz_check(w->file, w->length); break;
-        case 'b': w->answer = gristwaltz_balance(w->file, w->length, w->out, sizeof w->out); break;
-        case 'p': w->answer = gristwaltz_pass(w->file, w->length, w->out, sizeof w->out); break;
-        case 'r': w->answer = gristwaltz_resource_step(w->file, w->length, 0, w->out, sizeof w->out); break;
+        case CHECK: w->answer = gristwaltz_check(w->file, w->length); break;
+        case MOST_PASSES: w->answer = gristwaltz_most_passes(w->file, w->length); break;
+        case BALANCE: w->answer = gristwaltz_balance(w->file, w->length, w->out, sizeof w->out); break;
+        case RESOURCE_STEP: w->answer = gristwaltz_resource_step(w->file, w->length, 0, w->out, sizeof w->out); break;
+        case PASS: w->answer = gristwaltz_pass(w->file, w->length, w->out, sizeof w->out); break;
+        case SETTLE_WITHIN: w->answer = gristwaltz_settle_within(w->file, w->length, AT_MOST, w->out, sizeof w->out); break;
         default: w->answer = gristwaltz_settle(w->file, w->length, w->out, sizeof w->out);
         }
     w->microseconds += now();
@@ -70,36 +77,46 @@ static double best_of(struct work *w, unsigned calls) {
     return best;
 }
 
-/* Microseconds a call: many calls a round, unless one call takes long. */
-static double time_of(struct work *w, char call) {
-    w->call = call;
-    unsigned calls = best_of(w, 1) < 300 ? 5000 : 10;
-    return best_of(w, calls) / calls;
-}
+struct cost {
+    size_t stack;
+    double microseconds;
+    uint64_t answer;
+};
 
-/* The calls by their letters, as they stand in a line; settling comes last, so its answer stays. */
-static const char calls[] = "cbrps";
-enum { CALLS = sizeof calls - 1 };
+/* What a call costs. Its time: by many calls a round, unless one takes long. Its stack: by one call more, since the first of all may have had to
+ * link what it calls. A call of a second or more is made once, for both; the calls on its line before it have linked what it calls. */
+static struct cost cost_of(struct work *w, enum call call) {
+    struct cost cost;
+    w->call = call;
+    cost.stack = touched(w, 1);
+    cost.microseconds = w->microseconds;
+    if (cost.microseconds < 1e6) {
+        unsigned calls = best_of(w, 1) < 300 ? 5000 : 10;
+        cost.microseconds = best_of(w, calls) / calls;
+        cost.stack = touched(w, 1);
+    }
+    cost.answer = w->answer;
+    return cost;
+}
 
 /* One plan file: what it is, then the stack of each call and its microseconds. */
 static void tell(struct work *w, const char *name) {
-    size_t stack[CALLS];
-    double microseconds[CALLS];
-    for (int k = 0; k < CALLS; k++) {
-        microseconds[k] = time_of(w, calls[k]);
-        stack[k] = touched(w, 1);
-    }
-    printf("%-10s %6zu %8u %7u", name, w->length, gristwaltz_refusal(w->answer), gristwaltz_passes(w->answer));
-    for (int k = 0; k < CALLS; k++) printf(" %7zu", stack[k]);
-    for (int k = 0; k < CALLS; k++) printf(" %8.2f", microseconds[k]);
+    struct cost costs[CALLS];
+    for (int k = 0; k < CALLS; k++) costs[k] = cost_of(w, k);
+    printf("%-10s %6zu %8u %7u %9u", name, w->length, gristwaltz_refusal(costs[SETTLE].answer), gristwaltz_passes(costs[SETTLE].answer),
+           gristwaltz_passes(costs[MOST_PASSES].answer));
+    for (int k = 0; k < CALLS; k++) printf(" %7zu", costs[k].stack);
+    for (int k = 0; k < CALLS; k++) printf(" %8.*f", costs[k].microseconds < 99999 ? 2 : 0, costs[k].microseconds);
     printf("\n");
 }
 
 int main(int count, char **names) {
     static struct work w;
-    printf("%-33s  %-39s  microseconds\n", "", "stack");
-    printf("%-10s %6s %8s %7s %7s %7s %7s %7s %7s %8s %8s %8s %8s %8s\n", "plan", "bytes", "refusal", "passes",
-           "check", "balance", "step", "pass", "settle", "check", "balance", "step", "pass", "settle");
+    printf("%-43s  %-55s  microseconds\n", "", "stack");
+    printf("%-10s %6s %8s %7s %9s", "plan", "bytes", "refusal", "passes", "at most");
+    for (int k = 0; k < CALLS; k++) printf(" %7s", called[k]);
+    for (int k = 0; k < CALLS; k++) printf(" %8s", called[k]);
+    printf("\n");
     for (int k = 1; k < count; k++) {
         FILE *f = fopen(names[k], "rb");
         if (!f) return 2;

@@ -2,7 +2,8 @@
  * alone running under an emulator.
  *
  * A request is five numbers of 8 bytes (call, place, length of the file, length of the memory, margin), the file, and the memory that holds
- * the output buffer with a margin on either side. The reply is the answer and the memory as the call left it. */
+ * the output buffer with a margin on either side; settling within a number of passes has that number for the place. The reply is the answer
+ * and the memory as the call left it. */
 #include "../include/gristwaltz.h"
 
 /* of the C library, whose headers may be those of another machine */
@@ -10,7 +11,7 @@ long read(int from, void *to, unsigned long count);
 long write(int to, const void *from, unsigned long count);
 
 /* the calls, numbered as bulk/src/engine.rs sends them */
-enum { SETTLE, CHECK, BALANCE, STEP, PASS };
+enum { SETTLE, CHECK, BALANCE, STEP, PASS, MOST_PASSES, SETTLE_WITHIN };
 /* more than the longest file with a margin on either side; a longer request is refused */
 enum { ROOM = 2 * GRISTWALTZ_LONGEST_FILE };
 
@@ -63,6 +64,10 @@ static uint64_t answer_to(const struct request *q)
         return gristwaltz_balance(file, q->file_len, out, out_len);
     case PASS:
         return gristwaltz_pass(file, q->file_len, out, out_len);
+    case MOST_PASSES:
+        return gristwaltz_most_passes(file, q->file_len);
+    case SETTLE_WITHIN:
+        return gristwaltz_settle_within(file, q->file_len, q->place, out, out_len);
     default:
         return gristwaltz_resource_step(file, q->file_len, q->place, out, out_len);
     }

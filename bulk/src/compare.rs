@@ -4,7 +4,7 @@ use crate::engine::{Answer, Call, Engine};
 use crate::expected::Expected;
 use crate::tally::{Kind, Tally};
 use second::random::Random;
-use second::{allowed, file, words, Fault, Plan, Refusal};
+use second::{allowed, bound, file, words, Fault, Plan, Refusal};
 
 /// Bytes kept on either side of a lent buffer, to see that nothing beyond it is written.
 const MARGIN: usize = 16;
@@ -12,8 +12,8 @@ const MARGIN: usize = 16;
 const MOST_LISTED: u128 = 1_500;
 /// Of the plans that are small enough, one in so many is listed: listing is slow.
 const LISTED_ONE_IN: u64 = 12;
-/// So many passes are made one by one; what takes more is not followed to its end.
-const MOST_PASSES: u64 = 300;
+/// So many passes are followed call by call; what takes more is not followed to its end.
+const MOST_FOLLOWED: u64 = 300;
 /// Steps tried on a listed plan.
 const LISTED_STEPS: i64 = 6;
 
@@ -50,9 +50,10 @@ impl Comparison {
         let plan = file::read(file);
         self.tally.plans += 1;
         self.tally.banded += u64::from(plan.as_ref().is_ok_and(|plan| !plan.bands.is_empty()));
+        let bound = self.bound(&plan);
         // What the calls that take an output leave: settling's first.
         let mut writing = Vec::new();
-        for call in calls(&plan) {
+        for call in calls(&plan, some_most(random, bound)) {
             let expected = Expected::of(call, &plan, self.fault);
             self.tally.count_call(call, expected.answer);
             let room = if call.writes() { file.len() } else { 0 };
@@ -61,7 +62,7 @@ impl Comparison {
                 writing.push(expected);
             }
         }
-        self.by_passes(file, &writing[0])?;
+        self.other_ways_to_settle(file, bound, &writing[0], random)?;
         let expected = &writing[random.place(writing.len())];
         self.other_buffers(file, expected, random)?;
         match plan {
@@ -72,32 +73,92 @@ impl Comparison {
         }
     }
 
-    /// The engine's passes, each on the output of the one before, until one changes nothing or is refused: that is settling, the last pass
-    /// counted too.
-    fn by_passes(&mut self, file: &[u8], settled: &Expected) -> Result<(), Difference> {
+    /// The most passes that the second program tells, and the engine has to; 0 for a file that is refused.
+    fn bound(&self, plan: &Result<Plan, Refusal>) -> u64 {
+        let plan = plan.as_ref().ok();
+        let bound = plan.and_then(|plan| bound::most_passes(plan, self.fault).ok());
+        bound.unwrap_or(0)
+    }
+
+    /// Settling within the bound, by passes one by one, and within a few passes again and again.
+    fn other_ways_to_settle(
+        &mut self,
+        file: &[u8],
+        bound: u64,
+        settled: &Expected,
+        random: &mut Random,
+    ) -> Result<(), Difference> {
+        self.tally.count(Kind::WithinBound);
+        self.within_bound(file, bound, settled)?;
         self.tally.count(Kind::Passes);
+        self.again_and_again(Call::Pass, file, settled)?;
+        self.tally.count(Kind::AgainAndAgain);
+        let few = random.within(1, 6) as u64;
+        self.again_and_again(Call::Within(few), file, settled)
+    }
+
+    /// Settling takes no more passes than the bound, so within the bound the engine settles; "where settling ends in no plan, the failing
+    /// pass comes within the same number."
+    fn within_bound(
+        &mut self,
+        file: &[u8],
+        bound: u64,
+        settled: &Expected,
+    ) -> Result<(), Difference> {
+        if settled.answer.number() == 0 && settled.answer.is_beyond(bound) {
+            let said = settled.answer.words(Call::Settle);
+            return Err(Difference {
+                file: file.to_vec(),
+                text: format!("{said}; the most passes are {bound}\n"),
+            });
+        }
+        self.compare_call(file, file.len(), &settled.of_call(Call::Within(bound)))
+    }
+
+    /// The engine's passes one by one, or its settling within a few, each call on the output of the one before, until one settles the plan
+    /// or is refused: that is settling, the passes of all calls counted.
+    fn again_and_again(
+        &mut self,
+        call: Call,
+        file: &[u8],
+        settled: &Expected,
+    ) -> Result<(), Difference> {
+        let each = match call {
+            Call::Within(most) => most,
+            _ => 1,
+        };
         let mut before = file.to_vec();
         let mut after = before.clone();
-        for passes in 1..=MOST_PASSES {
-            let answer = self.engine.call(Call::Pass, &before, &mut after, 0);
-            let (ended, written) = match answer.number() {
-                0 if after == before => (Answer::done(passes), Some(&after)),
-                0 => {
-                    std::mem::swap(&mut before, &mut after);
-                    continue;
-                }
-                _ => (answer, None),
-            };
-            if ended == settled.answer && written == settled.written.as_ref() {
+        let mut passes = 0;
+        while passes < MOST_FOLLOWED {
+            let answer = self.counted_call(call, &before, &mut after);
+            if answer == Answer::UNSETTLED {
+                std::mem::swap(&mut before, &mut after);
+                passes += each;
+                continue;
+            }
+            let ended = answer.with_passes_before(passes);
+            let written = (ended.number() == 0).then_some(after);
+            if ended == settled.answer && written == settled.written {
                 return Ok(());
             }
-            return Err(not_settling(file, &ended.words(Call::Settle), settled));
+            let ended = ended.words(Call::Settle);
+            return Err(not_settling(call, file, &ended, settled));
         }
-        if settled.answer.is_beyond(MOST_PASSES) {
+        if settled.answer.is_beyond(passes) {
             return Ok(());
         }
-        let unsettled = format!("not settled after {MOST_PASSES} passes");
-        Err(not_settling(file, &unsettled, settled))
+        let unsettled = format!("not settled after {passes} passes");
+        Err(not_settling(call, file, &unsettled, settled))
+    }
+
+    /// One of those calls. A pass reports no count: the last is the one that changes nothing.
+    fn counted_call(&mut self, call: Call, before: &[u8], after: &mut [u8]) -> Answer {
+        let answer = self.engine.call(call, before, after, 0);
+        if call == Call::Pass && answer == Answer::UNSETTLED && after == before {
+            return Answer::done(1);
+        }
+        answer
     }
 
     /// A longer buffer, and a shorter one.
@@ -186,10 +247,11 @@ impl Comparison {
         let count = allowed::count(plan).expect("the plan was read");
         let mut before = file.to_vec();
         for _ in 0..LISTED_STEPS {
-            let step = match random.within(0, 5) {
+            let step = match random.within(0, 7) {
                 0 => Call::Settle,
                 1 => Call::Balance,
                 2 => Call::Pass,
+                3 => Call::Within(random.within(0, 3) as u64),
                 _ => Call::Step(random.place(plan.resources.len())),
             };
             let mut after = vec![0; before.len()];
@@ -214,19 +276,34 @@ impl Comparison {
     }
 }
 
-/// Every call; the resource step for every place, one beyond and two far beyond (of a damaged file, any place): one whose lowest 32 bits
-/// name the first resource, and the last that a host can ask for.
-fn calls(plan: &Result<Plan, Refusal>) -> impl Iterator<Item = Call> {
+/// Every call, settling within `most` passes among them; the resource step for every place, one beyond and two far beyond (of a damaged
+/// file, any place): one whose lowest 32 bits name the first resource, and the last that a host can ask for.
+fn calls(plan: &Result<Plan, Refusal>, most: u64) -> impl Iterator<Item = Call> {
     let places = plan.as_ref().map_or(0, |plan| plan.resources.len());
     let beyond = [1 << 32, usize::MAX];
     let steps = (0..=places).chain(beyond).map(Call::Step);
-    [Call::Settle, Call::Check, Call::Balance, Call::Pass]
-        .into_iter()
-        .chain(steps)
+    [
+        Call::Settle,
+        Call::Check,
+        Call::Balance,
+        Call::Pass,
+        Call::MostPasses,
+        Call::Within(most),
+    ]
+    .into_iter()
+    .chain(steps)
 }
 
-/// Passes one by one that come to something else than settling.
-fn not_settling(file: &[u8], ended: &str, settled: &Expected) -> Difference {
+/// How many passes settling is given: none or a few, one less than the bound or as many, one more than 32 bits hold, or the most that a
+/// host can ask for.
+fn some_most(random: &mut Random, bound: u64) -> u64 {
+    let few = random.within(3, 12) as u64;
+    let less = bound.saturating_sub(1);
+    random.pick(&[0, 1, 2, few, less, bound, 1 << 32, u64::MAX])
+}
+
+/// Calls again and again that come to something else than settling.
+fn not_settling(call: Call, file: &[u8], ended: &str, settled: &Expected) -> Difference {
     let said = settled.answer.words(Call::Settle);
     let outputs = if ended == said {
         ", with another output"
@@ -235,7 +312,9 @@ fn not_settling(file: &[u8], ended: &str, settled: &Expected) -> Difference {
     };
     Difference {
         file: file.to_vec(),
-        text: format!("the engine's passes, one by one: {ended}{outputs}; settling: {said}\n"),
+        text: format!(
+            "{call:?} by the engine, again and again: {ended}{outputs}; settling: {said}\n"
+        ),
     }
 }
 

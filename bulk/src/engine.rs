@@ -13,27 +13,34 @@ pub enum Call {
     Pass,
     /// The resource step for the resource at this place.
     Step(usize),
+    /// The most passes that settling can take.
+    MostPasses,
+    /// Settling within so many passes.
+    Within(u64),
 }
 
 impl Call {
     /// Whether it takes an output buffer.
     pub fn writes(self) -> bool {
-        self != Call::Check
+        !matches!(self, Call::Check | Call::MostPasses)
     }
 }
 
-/// What a call answers: "the refusal number times 2^32 plus the place, or, where the refusal number is 0, the pass count of settling (0
-/// for every other call)".
+/// What a call answers: the refusal number times 2^32 plus the place, or, where the refusal number is 0, the pass count of settling (within
+/// so many passes 0, if they have not settled the plan), or the most passes; 0 for every other call.
 #[derive(Clone, Copy, Debug, PartialEq, Eq)]
 pub struct Answer(u64);
 
-/// The place of a refusal, or the pass count, stands in so many bits below the refusal number.
+/// The place of a refusal, or the number of passes, stands in so many bits below the refusal number.
 const PLACE_BITS: u32 = 32;
 
 impl Answer {
     pub fn refused(refusal: Refusal) -> Answer {
         Answer((u64::from(refusal.number) << PLACE_BITS) + refusal.place as u64)
     }
+
+    /// A success that counts no passes: of settling within so many, that they have not settled the plan.
+    pub const UNSETTLED: Answer = Answer(0);
 
     pub fn done(passes: u64) -> Answer {
         Answer(passes)
@@ -42,6 +49,14 @@ impl Answer {
     /// The refusal number, 0 if it is none.
     pub fn number(self) -> u32 {
         (self.0 >> PLACE_BITS) as u32
+    }
+
+    /// The same with so many passes made before it; a refusal counts none.
+    pub fn with_passes_before(self, passes: u64) -> Answer {
+        match self.number() {
+            0 => Answer(self.0 + passes),
+            _ => self,
+        }
     }
 
     /// Whether this is a refusal, or more passes than so many.
@@ -56,7 +71,9 @@ impl Answer {
     pub fn words(self, call: Call) -> String {
         let rest = self.place_or_passes();
         match (self.number(), call) {
-            (0, Call::Settle) => format!("settled after {rest} passes"),
+            (0, Call::MostPasses) => format!("at most {rest} passes"),
+            (0, Call::Within(_)) if rest == 0 => "not settled yet".to_string(),
+            (0, Call::Settle | Call::Within(_)) => format!("settled after {rest} passes"),
             (0, _) if rest == 0 => "done".to_string(),
             (0, _) => format!("done, with {rest} where 0 is due"),
             (number, _) => Refusal::new(number, rest as usize).to_string(),
@@ -85,7 +102,7 @@ impl Engine {
         }
     }
 
-    /// What the call answers. `memory` is the output buffer with a margin on either side (a check takes no output).
+    /// What the call answers. `memory` is the output buffer with a margin on either side (a check and the most passes take no output).
     pub fn call(&mut self, call: Call, file: &[u8], memory: &mut [u8], margin: usize) -> Answer {
         Answer(match self {
             #[cfg(linked)]
@@ -120,6 +137,14 @@ mod linked {
             out: *mut u8,
             out_len: usize,
         ) -> u64;
+        fn gristwaltz_most_passes(file: *const u8, file_len: usize) -> u64;
+        fn gristwaltz_settle_within(
+            file: *const u8,
+            file_len: usize,
+            most: u64,
+            out: *mut u8,
+            out_len: usize,
+        ) -> u64;
     }
 
     pub fn call(call: Call, file: &[u8], out: &mut [u8]) -> u64 {
@@ -133,6 +158,8 @@ mod linked {
                 Call::Balance => gristwaltz_balance(from, length, to, room),
                 Call::Pass => gristwaltz_pass(from, length, to, room),
                 Call::Step(place) => gristwaltz_resource_step(from, length, place, to, room),
+                Call::MostPasses => gristwaltz_most_passes(from, length),
+                Call::Within(most) => gristwaltz_settle_within(from, length, most, to, room),
             }
         }
     }
@@ -169,12 +196,15 @@ impl Caller {
             Call::Settle => (0, 0),
             Call::Check => (1, 0),
             Call::Balance => (2, 0),
-            Call::Step(place) => (3, place),
+            Call::Step(place) => (3, place as u64),
             Call::Pass => (4, 0),
+            Call::MostPasses => (5, 0),
+            Call::Within(most) => (6, most),
         };
+        let lengths = [file.len(), memory.len(), margin].map(|length| length as u64);
         let mut request = Vec::new();
-        for part in [number, place, file.len(), memory.len(), margin] {
-            request.extend((part as u64).to_le_bytes());
+        for part in [number, place].into_iter().chain(lengths) {
+            request.extend(part.to_le_bytes());
         }
         request.extend(file);
         request.extend(&*memory);

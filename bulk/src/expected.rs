@@ -1,7 +1,7 @@
 //! What the second program says of a call on a plan file.
 
 use crate::engine::{Answer, Call};
-use second::{file, steps, Fault, Plan, Refusal};
+use second::{bound, file, steps, Fault, Plan, Refusal};
 
 /// A call's answer and, where it succeeds and takes an output buffer, the file it writes.
 #[derive(Clone)]
@@ -15,20 +15,23 @@ impl Expected {
     /// What the second program says of the plan that it read, with room enough for the output.
     pub fn of(call: Call, plan: &Result<Plan, Refusal>, fault: Option<Fault>) -> Expected {
         let stepped = plan.clone().and_then(|mut plan| {
-            let passes = match call {
+            let number = match call {
                 Call::Settle => steps::settle(&mut plan, fault)?,
                 Call::Check => 0,
                 Call::Balance => steps::balance(&mut plan).map(|()| 0)?,
                 Call::Pass => steps::pass(&mut plan, fault).map(|()| 0)?,
                 Call::Step(place) => steps::resource_step(&mut plan, place, fault).map(|()| 0)?,
+                Call::MostPasses => bound::most_passes(&plan, fault)?,
+                Call::Within(most) => steps::settle_within(&mut plan, most, fault)
+                    .map(|passes| passes.unwrap_or(0))?,
             };
-            Ok((passes, plan))
+            Ok((number, plan))
         });
         match stepped {
             Err(refusal) => Expected::refused(call, refusal),
-            Ok((passes, plan)) => Expected {
+            Ok((number, plan)) => Expected {
                 call,
-                answer: Answer::done(passes),
+                answer: Answer::done(number),
                 written: call.writes().then(|| file::unchecked_bytes(&plan)),
             },
         }
@@ -39,6 +42,14 @@ impl Expected {
             call,
             answer: Answer::refused(refusal),
             written: None,
+        }
+    }
+
+    /// The same answer and file, due of another call.
+    pub fn of_call(&self, call: Call) -> Expected {
+        Expected {
+            call,
+            ..self.clone()
         }
     }
 

@@ -11,14 +11,18 @@ pub enum Kind {
     Balance,
     Pass,
     Step,
+    MostPasses,
+    Within,
+    WithinBound,
     Passes,
+    AgainAndAgain,
     LongerBuffer,
     ShorterBuffer,
     Listing,
 }
 
 /// Every kind with its line in the report.
-const LINES: [(Kind, &str); 9] = [
+const LINES: [(Kind, &str); 13] = [
     (
         Kind::Settle,
         "settle: answer, place or passes, whole output",
@@ -30,9 +34,22 @@ const LINES: [(Kind, &str); 9] = [
         Kind::Step,
         "resource step, one for each resource and three beyond",
     ),
+    (Kind::MostPasses, "most passes"),
+    (
+        Kind::Within,
+        "settle within some number of passes: answer, whole output",
+    ),
+    (
+        Kind::WithinBound,
+        "settle within the most passes: settle's answer and output",
+    ),
     (
         Kind::Passes,
         "passes until one changes nothing: settle's answer and output",
+    ),
+    (
+        Kind::AgainAndAgain,
+        "settle within a few passes, again and again: settle's answer and output",
     ),
     (
         Kind::LongerBuffer,
@@ -74,6 +91,8 @@ impl Tally {
             Call::Balance => Kind::Balance,
             Call::Pass => Kind::Pass,
             Call::Step(_) => Kind::Step,
+            Call::MostPasses => Kind::MostPasses,
+            Call::Within(_) => Kind::Within,
         });
         if call == Call::Settle {
             self.answers[answer.number() as usize] += 1;

@@ -1,10 +1,13 @@
-// Settles case 9 of the page from Rust, by one call and pass by pass, then a plan that has none: its output buffer has to be as it was.
+// Settles case 9 of the page from Rust, by one call, pass by pass and in calls of at most two passes, then a plan that has none: its output
+// buffer has to be as it was.
 // Built and run by tests/40-embed; by hand: rustc examples/embed/settle.rs -C link-arg="$(tools/archive)" -o /tmp/embed && /tmp/embed, in the repository
 
 // What libgristwaltz.a exports; a byte slice is a pointer and a length.
 mod engine {
     extern "C" {
         fn gristwaltz_settle(file: *const u8, file_len: usize, out: *mut u8, out_len: usize) -> u64;
+        fn gristwaltz_settle_within(file: *const u8, file_len: usize, most: u64, out: *mut u8, out_len: usize) -> u64;
+        fn gristwaltz_most_passes(file: *const u8, file_len: usize) -> u64;
         fn gristwaltz_check(file: *const u8, file_len: usize) -> u64;
         fn gristwaltz_pass(file: *const u8, file_len: usize, out: *mut u8, out_len: usize) -> u64;
     }
@@ -25,6 +28,17 @@ mod engine {
     /// Settles the plan of `file`; on success the settled plan's file is the front of `out`, on a refusal `out` is as it was.
     pub fn settle(file: &[u8], out: &mut [u8]) -> Answer {
         answer(unsafe { gristwaltz_settle(file.as_ptr(), file.len(), out.as_mut_ptr(), out.len()) })
+    }
+
+    /// As `settle`, but makes at most `most` passes: `Done(0)` where the plan is not settled by then, and `out` what those passes left, to go
+    /// on from.
+    pub fn settle_within(file: &[u8], most: u64, out: &mut [u8]) -> Answer {
+        answer(unsafe { gristwaltz_settle_within(file.as_ptr(), file.len(), most, out.as_mut_ptr(), out.len()) })
+    }
+
+    /// The most passes that settling the plan of `file` can take.
+    pub fn most_passes(file: &[u8]) -> Answer {
+        answer(unsafe { gristwaltz_most_passes(file.as_ptr(), file.len()) })
     }
 
     /// One pass over the plan of `file`: `Done(0)`, since only settling reports a pass count.
@@ -79,6 +93,13 @@ fn main() {
     let mut left = case_nine.clone();
     println!("case 9 by passes: {:?}", settle_by_passes(&mut left));
     println!("the plan that is left is {}", if left == settled { "the page's" } else { "another" });
+
+    // what could be removed: 1 + 0 + 1 + 1 of task 0, 6 + 0 + 6 + 4 of task 1 and one of its two resources; one more pass than that
+    println!("case 9 takes at most: {:?}", engine::most_passes(&case_nine));
+    let (mut left, mut out) = (vec![0; case_nine.len()], vec![0; case_nine.len()]);
+    println!("case 9 within 2 passes: {:?}", engine::settle_within(&case_nine, 2, &mut left));
+    println!("going on from there: {:?}", engine::settle_within(&left, 2, &mut out));
+    println!("the plan that is left is {}", if out == settled { "the page's" } else { "another" });
 
     let without_plan = plan(1, &[(7, 0)], &[(1, [5, 5, 1, 1, 6, 6, -1, -1])]);
     let mut out = vec![0xa5; 100];

@@ -1,4 +1,4 @@
-//! The "Errors that look right" of document 01, errors of the bands and one of the pass, each to be planted alone.
+//! The "Errors that look right" of document 01, errors of the bands, one of the pass, and errors of request 6, each to be planted alone.
 
 /// A planted error. The rules without one take `None`.
 #[derive(Clone, Copy, Debug, PartialEq, Eq)]
@@ -28,6 +28,12 @@ pub enum Fault {
     /// The call of one pass takes the resources from the last to the first. Settling's passes stay right: no comparison but that of a pass
     /// by itself sees this error.
     PassBackwards,
+    /// The bound of request 6 without its 1: the pass that changes nothing forgotten.
+    BoundWithoutOne,
+    /// One of the "four ranges", duration, left out of the bound.
+    RangeLeftOut,
+    /// Settling within a number of passes makes one more than asked.
+    PassTooMany,
 }
 
 /// Every fault with the name the command line knows it by.
@@ -41,6 +47,9 @@ pub const FAULTS: &[(&str, Fault)] = &[
     ("band-day-late", Fault::BandDayLate),
     ("first-band-always", Fault::FirstBandAlways),
     ("pass-backwards", Fault::PassBackwards),
+    ("bound-without-one", Fault::BoundWithoutOne),
+    ("range-left-out", Fault::RangeLeftOut),
+    ("pass-too-many", Fault::PassTooMany),
 ];
 
 pub fn names() -> Vec<&'static str> {

@@ -1,4 +1,4 @@
-//! The second program: document 01, with request 1 of document 02, read literally, day by day and value by value.
+//! The second program: document 01, with requests 1 and 6 of document 02, read literally, day by day and value by value.
 //!
 //! "Further plans, valid and damaged, are run by a program and compared with an
 //! independent second program that lists allowed plans and applies the rules day
@@ -6,11 +6,12 @@
 //! makes it slow.
 //!
 //! `plan` is what a plan holds, `refusal` and `entry` what is refused, `steps`,
-//! `rules` and `left` how ranges are narrowed, `allowed` the listing, `file` and
-//! `program` the bytes read and the lines printed. `fault` plants an error in the
-//! rules, `make` makes plans to compare on.
+//! `rules` and `left` how ranges are narrowed, `bound` how many passes that takes at
+//! most, `allowed` the listing, `file` and `program` the bytes read and the lines
+//! printed. `fault` plants an error, `make` makes plans to compare on.
 
 pub mod allowed;
+pub mod bound;
 pub mod entry;
 pub mod fault;
 pub mod file;

@@ -25,6 +25,8 @@ fn run(arguments: &[String]) -> Result<(), String> {
     };
     match command.as_str() {
         "settle" => settle(fault_option(rest)?),
+        "within" => within(rest),
+        "most-passes" => most_passes(fault_option(rest)?),
         "answers" => answers(fault_option(rest)?),
         "count" => nothing_more(rest).and_then(|()| count()),
         "words" => nothing_more(rest).and_then(|()| plan_words()),
@@ -37,13 +39,16 @@ fn run(arguments: &[String]) -> Result<(), String> {
 fn help() -> String {
     format!(
         "usage:
-  second settle [--fault NAME] < FILE      what the planning program prints for FILE
-  second answers [--fault NAME] < STREAM   the same for each file of a stream
-  second count < FILE                      number of allowed plans, by listing
-  second words < FILE                      the plan in readable words
-  second make SEED COUNT > STREAM          a stream of COUNT plan files, the same for one SEED
-  second help                              this text
+  second settle [--fault NAME] < FILE        what the planning program prints for FILE
+  second within MOST [--fault NAME] < FILE   the same after at most MOST passes: `unsettled MOST` if each changed something
+  second most-passes [--fault NAME] < FILE   the most passes that settling FILE can take
+  second answers [--fault NAME] < STREAM     what the planning program prints for each file of a stream
+  second count < FILE                        number of allowed plans, by listing
+  second words < FILE                        the plan in readable words
+  second make SEED COUNT > STREAM            a stream of COUNT plan files, the same for one SEED
+  second help                                this text
 A stream holds plan files, each with its length in front as 4 bytes little-endian.
+MOST is a number of 64 bits.
 NAME is one of: {}
 ",
         fault::names().join(", ")
@@ -54,6 +59,18 @@ NAME is one of: {}
 
 fn settle(fault: Option<Fault>) -> Result<(), String> {
     print(program::answer(&plan_file()?, fault).as_bytes())
+}
+
+fn within(rest: &[String]) -> Result<(), String> {
+    let Some((most, rest)) = rest.split_first() else {
+        return Err(format!("within takes MOST\n{}", help()));
+    };
+    let (most, fault) = (number(most)?, fault_option(rest)?);
+    print(program::answer_within(&plan_file()?, most, fault).as_bytes())
+}
+
+fn most_passes(fault: Option<Fault>) -> Result<(), String> {
+    print(program::most_passes(&plan_file()?, fault).as_bytes())
 }
 
 fn answers(fault: Option<Fault>) -> Result<(), String> {
@@ -93,14 +110,15 @@ fn make_stream(rest: &[String]) -> Result<(), String> {
     let [seed, count] = rest else {
         return Err(format!("make takes SEED and COUNT\n{}", help()));
     };
-    let number = |text: &String| {
-        text.parse::<u64>()
-            .map_err(|_| format!("not a number from 0: {text}\n{}", help()))
-    };
     print(&make::stream(number(seed)?, number(count)?))
 }
 
 // ---- What follows a command ----
+
+fn number(text: &str) -> Result<u64, String> {
+    let number = text.parse();
+    number.map_err(|_| format!("not a number from 0: {text}\n{}", help()))
+}
 
 fn fault_option(rest: &[String]) -> Result<Option<Fault>, String> {
     match rest {

@@ -210,6 +210,11 @@ impl Range {
         (self.high - self.low + 1).max(0) as u64
     }
 
+    /// "high minus low": how many values can be removed until one is left.
+    pub fn width(self) -> u64 {
+        (self.high - self.low) as u64
+    }
+
     /// Not "outside its ends, or low above high".
     pub fn stands_within(self, ends: Range) -> bool {
         ends.low <= self.low && self.low <= self.high && self.high <= ends.high

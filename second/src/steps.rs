@@ -1,4 +1,4 @@
-//! Balance, resource step, pass and settling, by document 01's words.
+//! Balance, resource step, pass and settling, by document 01's words; settling within a number of passes.
 //!
 //! "Everything in one step is worked out from the ranges as they entered that
 //! step. The report prunes while it sweeps; we do not." "Every public call checks its own input. On each refusal, task lists
@@ -86,14 +86,41 @@ fn passed(
 pub fn settle(plan: &mut Plan, fault: Option<Fault>) -> Result<u64, Refusal> {
     entry::check(plan)?;
     let mut settled = plan.clone();
-    let mut passes = 0;
-    loop {
-        let after = passed(&settled, 0..settled.resources.len(), fault)?;
+    let mut passes = 1;
+    while pass_changes(&mut settled, fault)? {
         passes += 1;
-        if after == settled.tasks {
-            *plan = settled;
-            return Ok(passes);
-        }
-        settled.tasks = after;
     }
+    *plan = settled;
+    Ok(passes)
+}
+
+/// Settling for a host that "cuts off long calls": at most so many passes. The pass
+/// count if one of them changes nothing; else none, and the plan is what they left.
+pub fn settle_within(
+    plan: &mut Plan,
+    most: u64,
+    fault: Option<Fault>,
+) -> Result<Option<u64>, Refusal> {
+    entry::check(plan)?;
+    let most = match fault {
+        Some(Fault::PassTooMany) => most.saturating_add(1),
+        _ => most,
+    };
+    let mut left = plan.clone();
+    for passes in 1..=most {
+        if !pass_changes(&mut left, fault)? {
+            *plan = left;
+            return Ok(Some(passes));
+        }
+    }
+    *plan = left;
+    Ok(None)
+}
+
+/// Makes one of settling's passes and says whether it changes anything.
+fn pass_changes(plan: &mut Plan, fault: Option<Fault>) -> Result<bool, Refusal> {
+    let after = passed(plan, 0..plan.resources.len(), fault)?;
+    let changes = after != plan.tasks;
+    plan.tasks = after;
+    Ok(changes)
 }

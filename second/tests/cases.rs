@@ -3,7 +3,7 @@
 mod support;
 
 use second::steps::{pass, settle};
-use second::{allowed, file, program, Plan, Refusal, Resource, Sense};
+use second::{allowed, file, program, Plan, Refusal, Sense};
 use support::*;
 
 fn settles(mut plan: Plan, passes: u64) -> Plan {
@@ -79,18 +79,6 @@ fn case_8_barred_middle_stays_inside() {
     let plan = at_least(-3, &[single(2, 1, 3, -2), b]);
     assert_eq!(allowed::count(&plan), Ok(2));
     stays(plan, 1);
-}
-
-fn case_9() -> Plan {
-    Plan {
-        sense: Sense::AtLeast,
-        resources: vec![Resource { id: 7, limit: 4 }, Resource { id: 9, limit: 3 }],
-        bands: Vec::new(),
-        tasks: vec![
-            wide(1, to(1, 2), to(2, 2), to(3, 4), to(0, 1)),
-            wide(3, to(0, 6), to(2, 2), to(2, 8), to(0, 4)),
-        ],
-    }
 }
 
 #[test]

@@ -2,9 +2,10 @@
 
 mod support;
 
+use second::bound::most_passes;
 use second::file::{read, read_with_room, unchecked_bytes, write, Room, LONGEST};
 use second::plan::{DAYS, DURATIONS, MOST_BANDS, MOST_RESOURCES, MOST_TASKS, POWERS};
-use second::steps::{balance, pass, resource_step, settle};
+use second::steps::{balance, pass, resource_step, settle, settle_within};
 use second::{allowed, entry, program, Plan, Range, Refusal, Resource, Sense, Set, Task};
 use support::*;
 
@@ -37,6 +38,8 @@ fn every_call_refuses(plan: &Plan, number: u32, place: usize) {
     assert_eq!(resource_step(&mut after, 99, None), refused(number, place));
     assert_eq!(pass(&mut after, None), refused(number, place));
     assert_eq!(settle(&mut after, None), refused(number, place));
+    assert_eq!(settle_within(&mut after, 0, None), refused(number, place));
+    assert_eq!(most_passes(plan, None), refused(number, place));
     assert_eq!(&after, plan);
     let mut buffer = [7; 3];
     assert_eq!(write(plan, &mut buffer), refused(number, place));

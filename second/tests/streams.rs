@@ -125,6 +125,14 @@ fn passed(file: &[u8], fault: Option<Fault>) -> Result<Plan, Refusal> {
     pass(&mut plan, fault).map(|()| plan)
 }
 
+/// Errors of the calls beside settling, which does not see them: the one below, and those that tests/pass_bound.rs holds to their calls.
+const BESIDE_SETTLING: [Fault; 4] = [
+    Fault::PassBackwards,
+    Fault::BoundWithoutOne,
+    Fault::RangeLeftOut,
+    Fault::PassTooMany,
+];
+
 #[test]
 fn every_planted_fault_changes_answers() {
     let files: Vec<Vec<u8>> = (0..COUNT).map(|n| plan_file(SEED, n)).collect();
@@ -132,8 +140,8 @@ fn every_planted_fault_changes_answers() {
     for (name, fault) in FAULTS {
         let differs = |(file, said): &(&Vec<u8>, &String)| answer(file, Some(*fault)) != **said;
         let changed = files.iter().zip(&answers).filter(differs).count();
-        if *fault == Fault::PassBackwards {
-            assert_eq!(changed, 0, "settling's passes go forwards");
+        if BESIDE_SETTLING.contains(fault) {
+            assert_eq!(changed, 0, "{name}: settling has no such error");
         } else {
             assert!(changed > 5, "{name}: {changed}");
         }

@@ -1,5 +1,5 @@
 -- The number that a call on a plan file answers can be taken apart, as the C header does it: divided by 2^32 it is the refusal number (0:
--- nothing is refused), and what is left is the place of the refusal, or the pass count. So no two outcomes share an answer.
+-- nothing is refused), and what is left is the place of the refusal, or a number of passes. So no two outcomes share an answer.
 use mathlib.Core.Path.{_≡_, refl, sym, ap, _∙_, subst}
 use mathlib.Core.Bool.{not}
 use mathlib.Core.List.{List}
@@ -9,7 +9,7 @@ use lib.Dec.{ltb}
 use lib.ListN.{length}
 use Rattle.plan.specs.declared.Task.{Task}
 use Rattle.plan.specs.declared.Call.{Call}
-use Rattle.plan.specs.declared.Call.the-variants.{Check, Balance, Step, Pass, Settle}
+use Rattle.plan.specs.declared.Call.the-variants.{Check, Balance, Step, Pass, Settle, Within, MostPasses}
 use Rattle.plan.specs.declared.Checked.{Checked}
 use Rattle.plan.specs.declared.Refusal.{Refusal}
 use Rattle.plan.specs.declared.Refusal.the-variants.{BufferShort, NoSuchResource}
@@ -20,15 +20,16 @@ use Rattle.plan.proofs.Refusals.{number-ends, refusal-once}
 use Rattle.rules.specs.Frame.{Frame, resourceCount}
 use Rattle.rules.specs.Balance.{Outcome, balance}
 use Rattle.rules.specs.Step.{resourceStep}
-use Rattle.rules.specs.Settle.{Settled, pass, settle}
+use Rattle.rules.specs.Settle.{Settled, pass, settleWithin, settle, mostPasses}
 use Rattle.rules.specs.Calls.{refuseIf, check, Result, stepped, settled, unlessRefused, placedIn, answered, callOf}
-use Rattle.rules.proofs.Bounds.{PlacedTo, placed-then, placed-if, settle-small}
+use Rattle.rules.proofs.Within.{settled-within}
+use Rattle.rules.proofs.Bounds.{PlacedTo, placed-then, placed-if, rooms-most, settle-small}
 use Rattle.format.specs.Reading.{Read, readPlan}
 use Rattle.format.specs.Writing.{written, roomFor}
 use Rattle.format.proofs.Files.{whole}
 use Rattle.format.proofs.Refusing.{read-place}
-use Rattle.answers.specs.Files.{FileResult, fileResult, answerNumber, answerFile, lentDue, planCall, afterRead, fileCall, readNumber, checkFile, refusalIn}
-use Rattle.answers.specs.Outcomes.{readOutcome, fileOutcome, entryOutcome, checkOutcome, Apart}
+use Rattle.answers.specs.Files.{FileResult, fileResult, answerNumber, answerFile, lentDue, planCall, afterRead, fileCall, readNumber, checked, checkFile, mostFile, refusalIn}
+use Rattle.answers.specs.Outcomes.{readOutcome, fileOutcome, entryOutcome, checkOutcome, mostOutcome, Apart}
 
 abbrev Small : Answer → Type 0
 Small (Done passes) = passes < 2 ^ 32
@@ -46,7 +47,10 @@ stepped-small ts (Outcome.Plan us) = omega arith
 settled-small : (ts : List Task) (s : Settled) → ((k : ℕ) (us : List Task) → s ≡ Settled.After k us → k < 2 ^ 32) → Small (settled ts s .answer)
 settled-small ts Settled.Refused h = omega arith
 settled-small ts (Settled.After k us) h = h k us refl
-settled-small ts Settled.Unsettled h = omega arith
+settled-small ts (Settled.Unsettled us) h = omega arith
+
+most-small : (f : Frame) (ts : List Task) → check f ts ≡ Checked.Accepted → mostPasses ts < 2 ^ 32
+most-small f ts ok = let a = rooms-most f ts ok in omega arith
 
 answered-small : (c : Call) (f : Frame) (ts : List Task) → check f ts ≡ Checked.Accepted → Small (answered c f ts .answer)
 answered-small Check f ts ok = omega arith
@@ -54,6 +58,9 @@ answered-small Balance f ts ok = stepped-small ts (balance ts)
 answered-small (Step r) f ts ok = stepped-small ts (resourceStep f r ts)
 answered-small Pass f ts ok = stepped-small ts (pass f ts)
 answered-small Settle f ts ok = settled-small ts (settle f ts) (settle-small f ts ok)
+answered-small (Within most) f ts ok =
+    settled-small ts (settleWithin most f ts) (λ k us e. settle-small f ts ok k us (settled-within f most ts ok k us e .2))
+answered-small MostPasses f ts ok = most-small f ts ok
 
 unless-small : (k : Checked) (ts : List Task) (x : Result) → PlacedTo 0 k → Small (x .answer) → Small (unlessRefused k ts x .answer)
 unless-small Checked.Accepted ts x p h = h
@@ -86,9 +93,9 @@ outcome-small : (c : Call) (file out : List ℕ) (x : Read) → readPlan file �
 outcome-small c file out (Read.Plan f ts) h = plan-small c f ts out (whole h .accepted)
 outcome-small c file out (Read.Refuse e) h = file-place file e h
 
-entry-small : (file : List ℕ) (x : Read) → readPlan file ≡ x → Small (entryOutcome x)
-entry-small file (Read.Plan f ts) h = omega arith
-entry-small file (Read.Refuse e) h = file-place file e h
+entry-small : (asked : List Task → ℕ) → ((f : Frame) (ts : List Task) → check f ts ≡ Checked.Accepted → asked ts < 2 ^ 32) → (file : List ℕ) (x : Read) → readPlan file ≡ x → Small (entryOutcome asked x)
+entry-small asked k file (Read.Plan f ts) h = k f ts (whole h .accepted)
+entry-small asked k file (Read.Refuse e) h = file-place file e h
 
 -- ---- the answer is the outcome's number
 result-number : (f : Frame) (out : List ℕ) (a : Answer) (us : List Task) → answerFile f out a us .answer ≡ answerNumber a
@@ -99,9 +106,9 @@ read-number : (c : Call) (out : List ℕ) (x : Read) → afterRead c out x .answ
 read-number c out (Read.Plan f ts) = result-number f out (planCall c f ts out .answer) (planCall c f ts out .tasks)
 read-number c out (Read.Refuse e) = refl
 
-entry-number : (x : Read) → readNumber x ≡ answerNumber (entryOutcome x)
-entry-number (Read.Plan f ts) = refl
-entry-number (Read.Refuse e) = refl
+entry-number : (asked : List Task → ℕ) (x : Read) → readNumber asked x ≡ answerNumber (entryOutcome asked x)
+entry-number asked (Read.Plan f ts) = refl
+entry-number asked (Read.Refuse e) = refl
 
 -- ---- so every answer can be taken apart
 pub call-apart : (c : Call) (file out : List ℕ) → Apart (fileCall c file out .answer) (fileOutcome c file out)
@@ -110,10 +117,19 @@ call-apart c file out =
     subst (λ (n : ℕ). Apart n (fileOutcome c file out)) (sym (read-number c out (readPlan file)))
     (apart (fileOutcome c file out) (outcome-small c file out (readPlan file) refl))
 
+-- of a file that is only looked at
+looked-apart : (asked : List Task → ℕ) → ((f : Frame) (ts : List Task) → check f ts ≡ Checked.Accepted → asked ts < 2 ^ 32) → (file : List ℕ) → Apart (readNumber asked (readPlan file)) (entryOutcome asked (readPlan file))
+looked-apart asked k file =
+    subst (λ (n : ℕ). Apart n (entryOutcome asked (readPlan file))) (sym (entry-number asked (readPlan file)))
+    (apart (entryOutcome asked (readPlan file)) (entry-small asked k file (readPlan file) refl))
+
 pub check-apart : (file : List ℕ) → Apart (checkFile file) (checkOutcome file)
 unfolding checkFile
-check-apart file =
-    subst (λ (n : ℕ). Apart n (checkOutcome file)) (sym (entry-number (readPlan file))) (apart (checkOutcome file) (entry-small file (readPlan file) refl))
+check-apart file = looked-apart checked (λ f ts ok. omega arith) file
+
+pub most-apart : (file : List ℕ) → Apart (mostFile file) (mostOutcome file)
+unfolding mostFile
+most-apart file = looked-apart mostPasses most-small file
 
 -- the same, case by case
 pub call-done : (c : Call) (file out : List ℕ) (passes : ℕ) → fileOutcome c file out ≡ Done passes → (fileCall c file out .answer ≡ passes) × (passes < 2 ^ 32) × (refusalIn (fileCall c file out .answer) ≡ 0)
@@ -139,6 +155,11 @@ pub one-check : (file file′ : List ℕ) → checkFile file ≡ checkFile file�
 one-check file file′ e =
     apart-once (checkFile file′) (checkOutcome file) (checkOutcome file′)
     (subst (λ (n : ℕ). Apart n (checkOutcome file)) e (check-apart file)) (check-apart file′)
+
+pub one-most : (file file′ : List ℕ) → mostFile file ≡ mostFile file′ → mostOutcome file ≡ mostOutcome file′
+one-most file file′ e =
+    apart-once (mostFile file′) (mostOutcome file) (mostOutcome file′)
+    (subst (λ (n : ℕ). Apart n (mostOutcome file)) e (most-apart file)) (most-apart file′)
 
 -- ---- the contract of a call on a plan file is one equation between its answer beside what it leaves and a value of the inputs: it admits one
 pub one-file : {x : FileResult} {a b : ℕ} {out later : List ℕ} → fileResult a out ≡ x → fileResult b later ≡ x → (a ≡ b) × (out ≡ later)

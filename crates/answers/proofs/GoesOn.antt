@@ -36,10 +36,10 @@ module _ (f : Frame) (ts : List Task) (g : Good f ts) where
   file = written f ts
 
   module _ (c : Call) (out : List ℕ) (p : placedIn (resourceCount f) c ≡ true) (l : length file ≤ length out) (x : Result) (e : callOf c f ts ≡ x) where
-    call-left : fileLeft c file out ≡ written f (x .tasks)
+    pub call-left : fileLeft c file out ≡ written f (x .tasks)
     call-left = left-is f ts g c out ∙ ap (λ (r : Result). written f (r .tasks)) (roomy f ts g c out p l ∙ e)
 
-    call-number : fileCall c file out .answer ≡ oneNumber (toldAnswer (x .answer))
+    pub call-number : fileCall c file out .answer ≡ oneNumber (toldAnswer (x .answer))
     call-number = number-is f ts g c out (x .answer) (ap (λ (r : Result). r .answer) (roomy f ts g c out p l ∙ e))
 
   passed : (o : Outcome) → pass f ts ≡ o → callOf Pass f ts ≡ stepped ts o
@@ -105,7 +105,7 @@ module _ (f : Frame) (ts : List Task) (g : Good f ts) (out a b : List ℕ) (l : 
           left = λ z. call-left f ts g Settle a refl m (settled ts (Settled.After (suc i) vs)) r ∙ sym (call-left f us left-good Settle b refl room (settled us (Settled.After i vs)) h);
           none = λ z. let i-small = settle-small f us (left-good .passes) i vs u in absurd (omega arith);
         }
-    more-by Settled.Unsettled u t = absurd (settle-settles f us (left-good .passes) u)
+    more-by (Settled.Unsettled vs) u t = absurd (settle-settles f us (left-good .passes) vs u)
 
     more-is : (next ≡ written f ts → ⊥) → Alike (written f ts) a next b
     more-is q =

@@ -2,3 +2,4 @@
 pub mod Answers
 pub mod FileTheorems
 pub mod GoesOn
+pub mod FilePasses

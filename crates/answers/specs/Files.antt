@@ -9,7 +9,7 @@ use lib.ListN.{length, getD, take}
 use Rattle.integers.specs.Tests.{if}
 use Rattle.plan.specs.declared.Task.{Task}
 use Rattle.plan.specs.declared.Call.{Call}
-use Rattle.plan.specs.declared.Call.the-variants.{Settle}
+use Rattle.plan.specs.declared.Call.the-variants.{Settle, Within}
 use Rattle.plan.specs.declared.Checked.{Checked}
 use Rattle.plan.specs.declared.Refusal.{Refusal}
 use Rattle.plan.specs.declared.Refusal.the-variants.{NoSuchResource}
@@ -17,11 +17,12 @@ use Rattle.plan.specs.declared.Answer.{Answer}
 use Rattle.plan.specs.declared.Answer.the-variants.{Done, Refused}
 use Rattle.plan.specs.Refusals.{number, place, Told}
 use Rattle.rules.specs.Frame.{Frame, resourceCount}
+use Rattle.rules.specs.Settle.{mostPasses}
 use Rattle.rules.specs.Calls.{orElse, refuseIf, Result, unlessRefused, placedIn, callOf}
 use Rattle.format.specs.Reading.{Read, readPlan}
 use Rattle.format.specs.Writing.{written, laid, roomFor}
 
--- include/gristwaltz.h: the refusal number times 2^32 plus the place, or, for number 0, the pass count; every place is below 2^32
+-- include/gristwaltz.h: the refusal number times 2^32 plus the place, or, for number 0, the pass count or the most passes; every place is below 2^32
 abbrev pub answerNumber : Answer → ℕ
 answerNumber (Done n) = n
 answerNumber (Refused f) = number f * 2 ^ 32 + place f % 2 ^ 32
@@ -64,13 +65,21 @@ afterRead c out (Read.Refuse e) = refusedFile e out
 unfoldable pub fileCall : Call → List ℕ → List ℕ → FileResult
 fileCall c file out = afterRead c out (readPlan file)
 
+-- what is asked of the tasks of the plan that a file holds, where no output is lent
+abbrev pub readNumber : (List Task → ℕ) → Read → ℕ
+readNumber asked (Read.Plan f ts) = asked ts
+readNumber asked (Read.Refuse e) = answerNumber (Refused e)
+
 -- whether a file is a plan that passes the entry checks
-abbrev pub readNumber : Read → ℕ
-readNumber (Read.Plan f ts) = 0
-readNumber (Read.Refuse e) = answerNumber (Refused e)
+abbrev pub checked : List Task → ℕ
+checked ts = 0
 
 unfoldable pub checkFile : List ℕ → ℕ
-checkFile file = readNumber (readPlan file)
+checkFile file = readNumber checked (readPlan file)
+
+-- "How many passes at most"
+unfoldable pub mostFile : List ℕ → ℕ
+mostFile file = readNumber mostPasses (readPlan file)
 
 -- ---- what a caller does with them
 -- include/gristwaltz.h: an answer's refusal number, 0 where nothing is refused
@@ -90,6 +99,20 @@ pub record Asked : Type 0 where
 unfoldable pub filesLeft : List Asked → List ℕ → List ℕ
 filesLeft [] file = file
 filesLeft (a ∷ asked) file = filesLeft asked (fileLeft (a .call) file (a .out))
+
+-- ---- "The host cuts off long calls": settling in several calls, each of so many passes at most, on the file that the one before left
+pub record Part : Type 0 where
+  pub most : ℕ
+  pub out : List ℕ
+
+-- until an answer is not 0: a refusal, or a count, to which the host adds the passes of the calls before; the answer, and the file as it is then
+unfoldable pub settleFileAgain : ℕ → List Part → List ℕ → FileResult
+settleFileAgain before [] file = fileResult 0 file
+settleFileAgain before (p ∷ parts) file =
+    let answer = fileCall (Within (p .most)) file (p .out) .answer in
+    let left = fileLeft (Within (p .most)) file (p .out) in
+    if (eqb answer 0) (settleFileAgain (before + p .most) parts left)
+    (fileResult (if (eqb (refusalIn answer) 0) (before + answer) answer) left)
 
 -- what settling a file comes to, beside settling what a pass left of it
 pub record Alike (file a next b : List ℕ) : Type 0 where

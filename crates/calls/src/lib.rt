@@ -1,15 +1,14 @@
-// Calls on a plan file in memory, each with one number as its answer: what the functions for other languages do.
+// Calls on a plan file in memory that write, each with one number as its answer: what the functions for other languages do.
 ghost use mathlib.Core.Path.{_≡_};
 ghost use Prim.Native.Nat.{_≤_};
 ghost use lib.ListN.{length, drop};
-ghost use Rattle.plan.specs.declared.Answer.the-variants.{Refused};
 ghost use Rattle.plan.specs.Tasks.{mostResources, mostBands, mostTasks};
 ghost use Rattle.rows.specs.View.{tasksOf, frameOf};
 ghost use Rattle.profile.specs.Lent.{Lent};
 ghost use Rattle.passes.specs.Ready.{Ready};
 ghost use Rattle.format.specs.declared.Mark.the-variants.{LB};
 ghost use Rattle.format.specs.Format.{marked, bandsFrom, fileLength};
-ghost use Rattle.answers.specs.Files.{answerNumber, fileResult, lentDue, planFile, fileCall, checkFile};
+ghost use Rattle.answers.specs.Files.{fileResult, lentDue, planFile, fileCall};
 ghost use Rattle.calls.specs.Rows.{Counted, small, middle, wide, RowsAnswered, HeaderAnswered};
 use cursor::Cursor;
 use events::EVENTS_A_TASK;
@@ -18,6 +17,7 @@ use format::HeaderAnswer;
 use format::Mark;
 use format::Run;
 use format::table;
+use looks::refusal_number;
 use plan::Answer;
 use plan::Call;
 use plan::Checked;
@@ -37,15 +37,6 @@ use rows::TASK_CELLS;
 use rows::TaskRow;
 use stretches::STRETCH_CELLS;
 use stretches::StretchRow;
-
-// include/gristwaltz.h: the refusal number times 2^32 plus the place.
-pub const PLACES: u64 = 1 << 32;
-
-fn refusal_number(f: Refusal) -> u64
-    ensures { λ r. ⌜ r ≡ answerNumber (Refused f) ⌝ }
-{
-    f.number() * PLACES + (f.place() as u64) % PLACES
-}
 
 // 12 for a place, 10 for an output shorter than the file.
 fn check_lent(c: Call, resources: usize, bands: usize, tasks: usize, out: usize) -> Checked
@@ -450,26 +441,5 @@ pub fn apply_to_file(c: Call, file: &[u8], out: &mut [u8]) -> u64
     match file::read_header(file) {
         HeaderAnswer::Refused(f) => refusal_number(f),
         HeaderAnswer::Counts(h) => apply_counted(c, file, h, out),
-    }
-}
-
-// Whether a file is a plan that passes the entry checks.
-pub fn check_file(file: &[u8]) -> u64
-    ensures { λ r. ⌜ r ≡ checkFile (now (file .entry)) ⌝ }
-{
-    let resource = [0i64; RESOURCE_CELLS];
-    let band = [0i64; BAND_CELLS];
-    let task = [0i64; TASK_CELLS];
-    let mut resources = [resource; MOST_RESOURCES];
-    let mut bands = [band; MOST_BANDS];
-    let mut tasks = [task; MOST_TASKS];
-    match file::read_header(file) {
-        HeaderAnswer::Refused(f) => refusal_number(f),
-        HeaderAnswer::Counts(h) => {
-            match file::read_rest(file, h, &mut resources, &mut bands, &mut tasks) {
-                Run::Refused(f) => refusal_number(f),
-                Run::Through(_) => 0,
-            }
-        }
     }
 }

@@ -1,5 +1,5 @@
-// Every call on the core's rows: checking, balance, one resource's step, a pass, settling. The steps work at least: a plan at most is negated on
-// entry, and back on success.
+// Every call on the core's rows: checking, balance, one resource's step, a pass, settling, how many passes that makes at most. The steps work at
+// least: a plan at most is negated on entry, and back on success.
 ghost use mathlib.Core.Path.{_≡_};
 ghost use mathlib.Core.Bool.{true};
 ghost use lib.ListN.{length};
@@ -26,8 +26,13 @@ pub fn is_placed(c: Call, resources: usize) -> bool
         Call::Balance => true,
         Call::Pass => true,
         Call::Settle => true,
+        Call::Within(_) => true,
+        Call::MostPasses => true,
     }
 }
+
+// More passes than settling any plan makes: at most some 617 million.
+pub const ENOUGH_PASSES: u64 = 1 << 32;
 
 // A step or a pass makes no passes to report.
 fn left_if(ok: bool) -> Answer
@@ -67,7 +72,9 @@ fn apply_at_least(
             let o = passes::pass_rows(q, b, s, idle::EVERY_PLACE, keys, spare, ss);
             left_if(o.ok)
         }
-        Call::Settle => passes::settle_rows(q, b, s, keys, spare, ss),
+        Call::Settle => passes::settle_rows(ENOUGH_PASSES, q, b, s, keys, spare, ss),
+        Call::Within(most) => passes::settle_rows(most, q, b, s, keys, spare, ss),
+        Call::MostPasses => Answer::Done(bound::most_passes(s)),
     }
 }
 

@@ -1,8 +1,8 @@
 // Gristwaltz for other languages: calls on a plan file in memory, each with one number as its answer. They keep no state. Only what is
-// exported stands here, so that an edit of it is proved again in seconds; the work is done in crate calls.
+// exported stands here, so that an edit of it is proved again in seconds; the work is done in crates calls and looks.
 ghost use mathlib.Core.Path.{_≡_};
-ghost use Rattle.plan.specs.declared.Call.the-variants.{Balance, Step, Pass, Settle};
-ghost use Rattle.answers.specs.Files.{fileResult, fileCall, checkFile};
+ghost use Rattle.plan.specs.declared.Call.the-variants.{Balance, Step, Pass, Settle, Within};
+ghost use Rattle.answers.specs.Files.{fileResult, fileCall, checkFile, mostFile};
 use plan::Call;
 
 // Settles the plan of a file and writes the settled plan's file.
@@ -11,6 +11,22 @@ pub extern "C" fn gristwaltz_settle(file: &[u8], out: &mut [u8]) -> u64
     ensures { λ r. ⌜ fileResult r (now (out .exit)) ≡ fileCall Settle (now (file .entry)) (now (out .entry)) ⌝ }
 {
     calls::apply_to_file(Call::Settle, file, out)
+}
+
+// The same with at most so many passes: where they are too few, the plan that they left, and 0.
+#[no_mangle]
+pub extern "C" fn gristwaltz_settle_within(file: &[u8], most: u64, out: &mut [u8]) -> u64
+    ensures { λ r. ⌜ fileResult r (now (out .exit)) ≡ fileCall (Within most) (now (file .entry)) (now (out .entry)) ⌝ }
+{
+    calls::apply_to_file(Call::Within(most), file, out)
+}
+
+// How many passes settling the plan of a file makes at most.
+#[no_mangle]
+pub extern "C" fn gristwaltz_most_passes(file: &[u8]) -> u64
+    ensures { λ r. ⌜ r ≡ mostFile (now (file .entry)) ⌝ }
+{
+    looks::most_passes(file)
 }
 
 // One balance step.
@@ -42,5 +58,5 @@ pub extern "C" fn gristwaltz_pass(file: &[u8], out: &mut [u8]) -> u64
 pub extern "C" fn gristwaltz_check(file: &[u8]) -> u64
     ensures { λ r. ⌜ r ≡ checkFile (now (file .entry)) ⌝ }
 {
-    calls::check_file(file)
+    looks::check_file(file)
 }

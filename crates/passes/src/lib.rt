@@ -6,7 +6,7 @@ ghost use Prim.Native.Nat.{_<_};
 ghost use lib.Dec.{eqb};
 ghost use lib.ListN.{length};
 ghost use Rattle.integers.specs.Tests.{or};
-ghost use Rattle.plan.specs.declared.Call.the-variants.{Settle};
+ghost use Rattle.plan.specs.declared.Call.the-variants.{Within};
 ghost use Rattle.rules.specs.Frame.{places};
 ghost use Rattle.rules.specs.Step.{resourceStep};
 ghost use Rattle.rules.specs.Settle.{steps, pass};
@@ -105,8 +105,9 @@ pub fn pass_rows(
     steps_rows(q, b, s, first, keys, spare, ss)
 }
 
-// Passes until one changes nothing.
+// Passes until one changes nothing, at most so many.
 pub fn settle_rows(
+    most: u64,
     q: &[ResourceRow],
     b: &[BandRow],
     s: &mut [TaskRow],
@@ -115,11 +116,11 @@ pub fn settle_rows(
     ss: &mut [StretchRow],
 ) -> Answer
     requires { ⌜ Ready (now q) (now b) (now s) (now keys) (now spare) (now ss) ⌝ }
-    ensures { λ a. ⌜ AnsweredRows Settle (atLeast (now (q .entry)) (now (b .entry))) (now (s .entry)) a (now (s .exit)) ⌝ }
+    ensures { λ a. ⌜ AnsweredRows (Within most) (atLeast (now (q .entry)) (now (b .entry))) (now (s .entry)) a (now (s .exit)) ⌝ }
 {
     let mut mask: u64 = idle::lively_places(s);
     let mut passes: u64 = 0;
-    loop {
+    while passes < most {
         let p = pass_rows(q, b, s, mask, keys, spare, ss);
         if !p.ok {
             return Answer::Refused(Refusal::NoPlan);
@@ -130,4 +131,5 @@ pub fn settle_rows(
         }
         mask = p.mask;
     }
+    Answer::Done(0)
 }

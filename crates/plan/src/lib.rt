@@ -11,7 +11,7 @@ ghost use Rattle.integers.specs.Hull.{within, sameRange, fits};
 ghost use Rattle.plan.specs.Days.{day, dayEnds, durationEnds, daysOf, spanOf, cutBelow, cutAbove, cutTo, emptySpan};
 ghost use Rattle.plan.specs.Powers.{power, powerEnds, powersOf, powerSpanOf, negatedPower, negatedPowers};
 ghost use Rattle.plan.specs.Refusals.{number, place};
-ghost use Rattle.plan.specs.Sets.{setBits, has, only, atMostOne, without};
+ghost use Rattle.plan.specs.Sets.{setBits, has, only, atMostOne, without, size};
 ghost use Rattle.plan.specs.Tasks.{mostTasks, mostResources, mostBands};
 
 // "1 to 16 resources", "up to 64 bands", "0 to 256 tasks".
@@ -432,9 +432,13 @@ pub enum Call {
     Step(usize),
     Pass,
     Settle,
+    // settling, with at most so many passes
+    Within(u64),
+    // how many passes settling makes at most
+    MostPasses,
 }
 
-// What a call answers: done, after so many passes of settling (0 for every other call), or one refusal.
+// What a call answers: done, after so many passes of settling or with so many at most (0 for every other call), or one refusal.
 pub enum Answer {
     Done(u64),
     Refused(Refusal),
@@ -465,6 +469,13 @@ pub fn at_most_one(set: u64) -> bool
         return true;
     }
     set & (set - 1) == 0
+}
+
+// How many resources a set has.
+pub fn set_size(set: u64) -> u64
+    ensures { λ r. ⌜ r ≡ size setBits set ⌝ }
+{
+    u64::count_ones(set) as u64
 }
 
 pub fn without_resource(set: u64, k: u64) -> u64

@@ -37,7 +37,7 @@ use Rattle.rules.proofs.Checks.{accepts}
 use Rattle.rules.proofs.Theorems.{settle-bound}
 
 -- ---- the room of a task that passes the checks
-size-most : (m s : ℕ) → size m s ≤ m
+pub size-most : (m s : ℕ) → size m s ≤ m
 unfolding size
 size-most zero s = omega arith
 size-most (suc m) s = let a = size-most m (s / 2) in omega arith

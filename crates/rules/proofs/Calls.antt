@@ -8,7 +8,7 @@ use borrow.Author.Tests.{ltb-true}
 use Rattle.integers.proofs.Tests.{by-cases}
 use Rattle.plan.specs.declared.Task.{Task}
 use Rattle.plan.specs.declared.Call.{Call}
-use Rattle.plan.specs.declared.Call.the-variants.{Check, Balance, Step, Pass, Settle}
+use Rattle.plan.specs.declared.Call.the-variants.{Check, Balance, Step, Pass, Settle, Within, MostPasses}
 use Rattle.plan.specs.declared.Refusal.{Refusal}
 use Rattle.plan.specs.declared.Refusal.the-variants.{NoPlan, NoSuchResource}
 use Rattle.plan.specs.declared.Answer.{Answer}
@@ -19,12 +19,11 @@ use Rattle.plan.specs.declared.Checked.the-variants.{Accepted}
 use Rattle.rules.specs.Frame.{Frame, resourceCount}
 use Rattle.rules.specs.Balance.{Outcome, balance}
 use Rattle.rules.specs.Step.{resourceStep}
-use Rattle.rules.specs.Settle.{Settled, pass, settle, rooms}
+use Rattle.rules.specs.Settle.{Settled, pass, settleWithin, settle, rooms, mostPasses}
 use Rattle.rules.specs.Calls.{orElse, refuseIf, check, Result, done, refused, unlessRefused, stepped, settled, placedIn, answered, callOf, listResult, listCall}
 use Rattle.rules.proofs.Keeps.{Sound, balance-sound, step-sound, nothing-sound}
 use Rattle.rules.specs.Keeps.{Keeps, HoldsNone}
 use Rattle.rules.proofs.Passes.{pass-sound, SettledSound, settle-sound}
-use Rattle.rules.proofs.Ends.{Ended, settle-ends}
 
 module _ (c : Call) (f : Frame) (ts : List Task) where
   pub call-refused : (e : Refusal) → check f ts ≡ Checked.Refused e → callOf c f ts ≡ refused e ts
@@ -55,10 +54,10 @@ module _ (f : Frame) (ts : List Task) where
   stepped-fair Outcome.NoPlan a h = refused-fair NoPlan a (λ e. h)
   stepped-fair (Outcome.Plan us) a h = record { keeps = h; none = not-done 0 }
 
-  settled-fair : (s : Settled) → check f ts ≡ Accepted → SettledSound f ts s → (s ≡ Settled.Unsettled → ⊥) → Fair f ts (settled ts s)
-  settled-fair Settled.Refused a h u = refused-fair NoPlan a (λ e. h)
-  settled-fair (Settled.After n us) a h u = record { keeps = h; none = not-done n }
-  settled-fair Settled.Unsettled a h u = absurd (u refl)
+  settled-fair : (s : Settled) → check f ts ≡ Accepted → SettledSound f ts s → Fair f ts (settled ts s)
+  settled-fair Settled.Refused a h = refused-fair NoPlan a (λ e. h)
+  settled-fair (Settled.After n us) a h = record { keeps = h; none = not-done n }
+  settled-fair (Settled.Unsettled us) a h = record { keeps = h; none = not-done 0 }
 
   answered-fair : (c : Call) → check f ts ≡ Accepted → placedIn (resourceCount f) c ≡ true → Fair f ts (answered c f ts)
   unfolding settle
@@ -66,8 +65,9 @@ module _ (f : Frame) (ts : List Task) where
   answered-fair Balance a p = stepped-fair (balance ts) a (balance-sound f ts a)
   answered-fair (Step r) a p = stepped-fair (resourceStep f r ts) a (step-sound f r (ltb-true r (resourceCount f) p) ts a)
   answered-fair Pass a p = stepped-fair (pass f ts) a (pass-sound f ts a)
-  answered-fair Settle a p =
-      settled-fair (settle f ts) a (settle-sound (suc (rooms ts)) f ts a) (λ e. subst (Ended f (rooms ts + 1) ts) e (settle-ends f ts a))
+  answered-fair Settle a p = settled-fair (settle f ts) a (settle-sound (suc (rooms ts)) f ts a)
+  answered-fair (Within most) a p = settled-fair (settleWithin most f ts) a (settle-sound most f ts a)
+  answered-fair MostPasses a p = record { keeps = nothing-sound f ts a; none = not-done (mostPasses ts) }
 
   pub call-fair : (c : Call) → check f ts ≡ Accepted → Fair f ts (callOf c f ts)
   call-fair c a =
@@ -89,7 +89,7 @@ stepped-stays ts (Outcome.Plan us) h = absurd (h refl)
 settled-stays : (ts : List Task) (s : Settled) → Stays ts (settled ts s)
 settled-stays ts Settled.Refused h = refl
 settled-stays ts (Settled.After n us) h = absurd (h refl)
-settled-stays ts Settled.Unsettled h = refl
+settled-stays ts (Settled.Unsettled us) h = absurd (h refl)
 
 answered-stays : (c : Call) (f : Frame) (ts : List Task) → Stays ts (answered c f ts)
 answered-stays Check f ts = stepped-stays ts (Outcome.Plan ts)
@@ -97,6 +97,8 @@ answered-stays Balance f ts = stepped-stays ts (balance ts)
 answered-stays (Step r) f ts = stepped-stays ts (resourceStep f r ts)
 answered-stays Pass f ts = stepped-stays ts (pass f ts)
 answered-stays Settle f ts = settled-stays ts (settle f ts)
+answered-stays (Within most) f ts = settled-stays ts (settleWithin most f ts)
+answered-stays MostPasses f ts = λ h. refl
 
 pub unless-stays : (k : Checked) (ts : List Task) (x : Result) → Stays ts x → Stays ts (unlessRefused k ts x)
 unless-stays Accepted ts x h = h

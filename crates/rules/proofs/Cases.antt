@@ -16,6 +16,7 @@ use Rattle.rules.specs.Step.{possible, running, sure, hope, total, other
 use Rattle.rules.specs.Settle.{steps, pass, sameRanges, sameTask, sameTasks, settleWithin, room, rooms, settle}
 use Rattle.rules.specs.Calls.{Result, repeats, limits, bandEnds, bandFits, bandsAfter, bandsFit, rangesFit, setFits, tasksFit, check, callOf}
 use Rattle.rules.specs.BandCases.{bandCases, needFrame, needBefore, needAfter}
+use Rattle.rules.specs.PassCases.{passCases}
 use Rattle.rules.specs.Cases.{Case, pageCases, ownCases, case9Calls, case9Frame, case9Before, case9After}
 
 abbrev answers : List Case → List Result
@@ -41,6 +42,11 @@ band-cases = refl
 pub case9-calls : answers case9Calls ≡ printed case9Calls
 unfolding callOf check tasksFit setFits rangesFit bandsFit bandsAfter bandFits bandEnds limits repeats settle rooms room settleWithin sameTasks sameTask sameRanges pass steps resourceStep senseStep negated atLeastStep listedDays greatest least narrowed keptSet neededSet keepsHeight keepsEnd keepsDuration keepsOrigin shut barred needed shortfall counts others total hope sure running possible balance balanced unlessEmpty cuts each limitOn limitFrom places placesFrom noResource size without only has negatedPowers cutTo cutAbove cutBelow left hull last values countOf upFrom fits width sameRange within sumOf any all filter
 case9-calls = refl
+
+-- and how many passes at most, and within so many
+pub pass-cases : answers passCases ≡ printed passCases
+unfolding callOf check tasksFit setFits rangesFit bandsFit bandsAfter bandFits bandEnds limits repeats settle rooms room settleWithin sameTasks sameTask sameRanges pass steps resourceStep senseStep negated atLeastStep listedDays greatest least narrowed keptSet neededSet keepsHeight keepsEnd keepsDuration keepsOrigin shut barred needed shortfall counts others total hope sure running possible balance balanced unlessEmpty cuts each limitOn limitFrom places placesFrom noResource size without only has negatedPowers cutTo cutAbove cutBelow left hull last values countOf upFrom fits width sameRange within sumOf any all filter
+pass-cases = refl
 
 -- case 9: "Six allowed plans before and after."
 pub six-before : count case9Frame case9Before ≡ 6

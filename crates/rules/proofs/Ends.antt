@@ -1,5 +1,5 @@
 -- Settling ends: each pass but the last takes some room away, so there is at most one pass more than there is room, and a pass that
--- finds no plan comes within as many.
+-- finds no plan comes within as many. So more passes than these are never made, and settling within as many is settling.
 use mathlib.Core.Path.{_≡_, refl, sym, ap, _∙_, subst}
 use Prim.Native.Nat.{ℕ, zero, suc, _+_, _≤_, _<_}
 use native.Mathlib.Omega.{arith}
@@ -10,7 +10,7 @@ use Rattle.plan.specs.declared.Task.{Task}
 use Rattle.rules.specs.Frame.{Frame}
 use Rattle.rules.specs.Balance.{Outcome}
 use Rattle.rules.specs.Balance.Outcome.{NoPlan, Plan}
-use Rattle.rules.specs.Settle.{then, pass, sameTasks, Settled, onePassMore, unlessSame, settleWithin, settle, rooms}
+use Rattle.rules.specs.Settle.{then, pass, sameTasks, Settled, onePassMore, unlessSame, settleWithin, settle, rooms, mostPasses}
 use Rattle.rules.specs.Settle.Settled.{Refused, After, Unsettled}
 use Rattle.rules.specs.Moves.{passes, Stops}
 use Rattle.rules.specs.Calls.{check}
@@ -25,7 +25,7 @@ module _ (f : Frame) where
   abbrev pub Ended : ℕ → List Task → Settled → Type 0
   Ended b ts Refused = (k : ℕ) × (k ≤ b) × (passes k f ts ≡ NoPlan)
   Ended b ts (After k us) = (k ≤ b) × (passes k f ts ≡ Plan us)
-  Ended b ts Unsettled = ⊥
+  Ended b ts (Unsettled us) = ⊥
 
   first-fails : (ts : List Task) → pass f ts ≡ NoPlan → passes 1 f ts ≡ NoPlan
   unfolding passes
@@ -47,26 +47,44 @@ module _ (f : Frame) where
   more-ended a b ts us (After k vs) e l h =
       let j = h .0 in
       (omega arith, first-leaves ts us k e ∙ h .1)
-  more-ended a b ts us Unsettled e l h = h
+  more-ended a b ts us (Unsettled vs) e l h = h
 
   -- with more passes to go than room, settling ends
-  pub ends-within : (n : ℕ) (ts : List Task) → check f ts ≡ Accepted → rooms ts < n → Ended (rooms ts + 1) ts (settleWithin n f ts)
+  pub ends-within : (n : ℕ) (ts : List Task) → check f ts ≡ Accepted → rooms ts < n → Ended (mostPasses ts) ts (settleWithin n f ts)
   unfolding settleWithin
   ends-within zero ts a h = absurd (omega arith)
   ends-within (suc n) ts a h = go (pass f ts) refl (pass-sound f ts a) (ends-within n)
     where
-      go : (o : Outcome) → pass f ts ≡ o → Sound f ts o → ((us : List Task) → check f us ≡ Accepted → rooms us < n → Ended (rooms us + 1) us (settleWithin n f us)) → Ended (rooms ts + 1) ts (unlessSame (settleWithin n f) ts o)
+      go : (o : Outcome) → pass f ts ≡ o → Sound f ts o → ((us : List Task) → check f us ≡ Accepted → rooms us < n → Ended (mostPasses us) us (settleWithin n f us)) → Ended (mostPasses ts) ts (unlessSame (settleWithin n f) ts o)
       go NoPlan e g k = (1, omega arith, first-fails ts e)
       go (Plan us) e g k =
-          if-case (Ended (rooms ts + 1) ts) (sameTasks ts us) (After 1 us) (onePassMore (settleWithin n f us))
+          if-case (Ended (mostPasses ts) ts) (sameTasks ts us) (After 1 us) (onePassMore (settleWithin n f us))
           (λ q. (omega arith, one-pass ts us e))
           (λ q.
           let less = keeps-less f ts us a g q in
-          more-ended (rooms us + 1) (rooms ts + 1) ts us (settleWithin n f us) e (omega arith) (k us (g .accepted) (omega arith)))
+          more-ended (mostPasses us) (mostPasses ts) ts us (settleWithin n f us) e (omega arith) (k us (g .accepted) (omega arith)))
 
-  pub settle-ends : (ts : List Task) → check f ts ≡ Accepted → Ended (rooms ts + 1) ts (settle f ts)
+  pub settle-ends : (ts : List Task) → check f ts ≡ Accepted → Ended (mostPasses ts) ts (settle f ts)
   unfolding settle
   settle-ends ts a = ends-within (suc (rooms ts)) ts a (omega arith)
+
+-- ---- settling within one pass more is a pass, and settling within so many what it left
+module _ (f : Frame) (n : ℕ) (ts : List Task) where
+  -- the pass finds no plan
+  pub within-refused : pass f ts ≡ NoPlan → settleWithin (suc n) f ts ≡ Refused
+  unfolding settleWithin
+  within-refused e = rw e
+
+  module _ (us : List Task) (e : pass f ts ≡ Plan us) where
+    -- the pass changes nothing
+    pub within-last : sameTasks ts us ≡ true → settleWithin (suc n) f ts ≡ After 1 us
+    unfolding settleWithin
+    within-last s = rw (e, s)
+
+    -- the pass changes something
+    pub within-more : sameTasks ts us ≡ false → settleWithin (suc n) f ts ≡ onePassMore (settleWithin n f us)
+    unfolding settleWithin
+    within-more s = rw (e, s)
 
 -- ---- settling is a pass, and settling what it left
 module _ (f : Frame) where
@@ -84,30 +102,32 @@ module _ (f : Frame) where
           (λ e. let less = keeps-less f ts us a k e in rw (e, g us (k .accepted) (omega arith) (omega arith)))
 
   module _ (ts : List Task) (a : check f ts ≡ Accepted) where
-    -- the pass finds no plan
+    -- with as many passes as the bound, or more
+    pub within-most : (n : ℕ) → mostPasses ts ≤ n → settleWithin n f ts ≡ settle f ts
+    unfolding settle
+    within-most n l = same-bound n (suc (rooms ts)) ts a (omega arith) (omega arith)
+
     pub settle-refused : pass f ts ≡ NoPlan → settle f ts ≡ Refused
-    unfolding settle settleWithin
-    settle-refused e = rw e
+    unfolding settle
+    settle-refused e = within-refused f (rooms ts) ts e
 
-    -- the pass changes nothing
     pub settle-last : (us : List Task) → pass f ts ≡ Plan us → sameTasks ts us ≡ true → settle f ts ≡ After 1 us
-    unfolding settle settleWithin
-    settle-last us e s = rw (e, s)
+    unfolding settle
+    settle-last us e s = within-last f (rooms ts) ts us e s
 
-    -- the pass changes something
     pub settle-more : (us : List Task) → pass f ts ≡ Plan us → sameTasks ts us ≡ false → settle f ts ≡ onePassMore (settle f us)
-    unfolding settle settleWithin
+    unfolding settle
     settle-more us e s =
         let k : Keeps f ts us = subst (Sound f ts) e (pass-sound f ts a) in
         let l = keeps-less f ts us a k s in
-        rw (e, s) (ap onePassMore (same-bound (rooms ts) (suc (rooms us)) us (k .accepted) l (omega arith)))
+        within-more f (rooms ts) ts us e s ∙ ap onePassMore (same-bound (rooms ts) (suc (rooms us)) us (k .accepted) l (omega arith))
 
 -- ---- and stops at the first pass that changes nothing
 module _ (f : Frame) where
   abbrev Stopped : List Task → Settled → Type 0
   Stopped ts Refused = Unit {0}
   Stopped ts (After k us) = Stops f ts k us
-  Stopped ts Unsettled = Unit {0}
+  Stopped ts (Unsettled us) = Unit {0}
 
   same-plan : {vs ws : List Task} → Plan vs ≡ Plan ws → vs ≡ ws
   same-plan e = cc
@@ -133,7 +153,7 @@ module _ (f : Frame) where
   stopped-more : (ts us : List Task) → pass f ts ≡ Plan us → sameTasks ts us ≡ false → (s : Settled) → Stopped us s → Stopped ts (onePassMore s)
   stopped-more ts us e q Refused h = tt
   stopped-more ts us e q (After k vs) h = stops-more ts us e q k vs h
-  stopped-more ts us e q Unsettled h = tt
+  stopped-more ts us e q (Unsettled vs) h = tt
 
   stopped-once : (ts us : List Task) → pass f ts ≡ Plan us → sameTasks ts us ≡ true → Stops f ts 1 us
   unfolding passes

@@ -28,6 +28,7 @@ pub mod FixedSteps
 pub mod FixedPass
 pub mod Rooms
 pub mod Ends
+pub mod Within
 pub mod Calls
 pub mod Unlisted
 pub mod Elsewhere
@@ -36,3 +37,4 @@ pub mod Once
 pub mod Theorems
 pub mod Bounds
 pub mod CallTheorems
+pub mod PassTheorems

@@ -18,7 +18,7 @@ use Rattle.plan.specs.declared.Task.{Task}
 use Rattle.plan.specs.declared.Resource.{Resource}
 use Rattle.plan.specs.declared.Band.{Band}
 use Rattle.plan.specs.declared.Call.{Call}
-use Rattle.plan.specs.declared.Call.the-variants.{Check, Balance, Step, Pass, Settle}
+use Rattle.plan.specs.declared.Call.the-variants.{Check, Balance, Step, Pass, Settle, Within, MostPasses}
 use Rattle.plan.specs.declared.Checked.{Checked}
 use Rattle.plan.specs.declared.Refusal.the-variants.{NoSuchResource}
 use Rattle.plan.specs.declared.Narrowed.{Narrowed}
@@ -32,9 +32,9 @@ use Rattle.rules.specs.Frame.{Frame, resourceCount, resourceAt, placesFr
 use Rattle.rules.specs.Balance.{Outcome, andThen, each, cuts, unlessEmpty, balanced, balance}
 use Rattle.rules.specs.Balance.Outcome.{NoPlan, Plan}
 use Rattle.rules.specs.Step.{negated, negatedPlan, atLeastStep, senseStep, resourceStep}
-use Rattle.rules.specs.Settle.{then, steps, pass, sameRanges, sameTask, sameTasks, Settled, onePassMore, unlessSame, settleWithin, settle, room, rooms}
+use Rattle.rules.specs.Settle.{then, steps, pass, sameRanges, sameTask, sameTasks, Settled, onePassMore, unlessSame, settleWithin, settle, room, rooms, mostPasses}
 use Rattle.rules.specs.Settle.Settled.{Refused, After, Unsettled}
-use Rattle.rules.specs.Calls.{orElse, refuseIf, repeats, limits, rangesFit, setFits, tasksFit, earlier, bandEnds, bandFits, bandsAfter, bandsFit, check, Result, unlessRefused, stepped, settled, placedIn, answered, callOf}
+use Rattle.rules.specs.Calls.{orElse, refuseIf, repeats, limits, rangesFit, setFits, tasksFit, earlier, bandEnds, bandFits, bandsAfter, bandsFit, check, Result, done, unlessRefused, stepped, settled, placedIn, answered, callOf}
 use Rattle.rules.specs.Negation.{opposite, negatedResource, negatedBand, negatedFrame, negatedSettled, negatedResult}
 use Rattle.rules.proofs.Bands.{limit-bands-negated}
 
@@ -183,7 +183,7 @@ same-tasks-negated (t ∷ ts) (u ∷ us) = ap₂ and (same-task-negated t u) (sa
 more-negated : (s : Settled) → onePassMore (negatedSettled s) ≡ negatedSettled (onePassMore s)
 more-negated Refused = refl
 more-negated (After n ts) = refl
-more-negated Unsettled = refl
+more-negated (Unsettled ts) = refl
 
 unless-same-negated : (k k' : List Task → Settled) → ((us : List Task) → k (map negated us) ≡ negatedSettled (k' us)) → (ts : List Task) (o : Outcome) → unlessSame k (map negated ts) (negatedPlan o) ≡ negatedSettled (unlessSame k' ts o)
 unless-same-negated k k' h ts NoPlan = refl
@@ -303,7 +303,7 @@ stepped-negated ts (Plan us) = refl
 settled-negated : (ts : List Task) (s : Settled) → settled (map negated ts) (negatedSettled s) ≡ negatedResult (settled ts s)
 settled-negated ts Refused = refl
 settled-negated ts (After n us) = refl
-settled-negated ts Unsettled = refl
+settled-negated ts (Unsettled us) = refl
 
 answered-negated : (c : Call) (f : Frame) (ts : List Task) → answered c (negatedFrame f) (map negated ts) ≡ negatedResult (answered c f ts)
 answered-negated Check f ts = refl
@@ -311,6 +311,8 @@ answered-negated Balance f ts = ap (stepped (map negated ts)) (balance-negated t
 answered-negated (Step r) f ts = ap (stepped (map negated ts)) (step-negated f r ts) ∙ stepped-negated ts (resourceStep f r ts)
 answered-negated Pass f ts = ap (stepped (map negated ts)) (pass-negated f ts) ∙ stepped-negated ts (pass f ts)
 answered-negated Settle f ts = ap (settled (map negated ts)) (settle-negated f ts) ∙ settled-negated ts (settle f ts)
+answered-negated (Within most) f ts = ap (settled (map negated ts)) (settle-within-negated most f ts) ∙ settled-negated ts (settleWithin most f ts)
+answered-negated MostPasses f ts = rw (rooms-negated ts)
 
 pub call-negated : (c : Call) (f : Frame) (ts : List Task) → callOf c (negatedFrame f) (map negated ts) ≡ negatedResult (callOf c f ts)
 unfolding callOf

@@ -16,7 +16,7 @@ use Rattle.rules.specs.Moves.{Move, move, play, onePass, passes, manyPas
 use Rattle.rules.specs.Moves.Move.{StepOf}
 use Rattle.rules.specs.Calls.{check}
 use Rattle.plan.specs.declared.Checked.the-variants.{Accepted}
-use Rattle.rules.proofs.Keeps.{Sound, keeps-then, nothing-then, play-sound}
+use Rattle.rules.proofs.Keeps.{Sound, keeps-then, nothing-then, nothing-sound, play-sound}
 use Rattle.rules.specs.Keeps.{Keeps, HoldsNone}
 
 -- ---- a pass
@@ -72,12 +72,12 @@ passes-play (suc k) f ts =
 abbrev pub SettledSound : Frame → List Task → Settled → Type 0
 SettledSound f ts Refused = HoldsNone f ts
 SettledSound f ts (After n us) = Keeps f ts us
-SettledSound f ts Unsettled = Unit {0}
+SettledSound f ts (Unsettled us) = Keeps f ts us
 
 more-sound : (f : Frame) (us ts : List Task) (s : Settled) → Keeps f ts us → SettledSound f us s → SettledSound f ts (onePassMore s)
 more-sound f us ts Refused h g = nothing-then h g
 more-sound f us ts (After n vs) h g = keeps-then h g
-more-sound f us ts Unsettled h g = tt
+more-sound f us ts (Unsettled vs) h g = keeps-then h g
 
 unless-same-sound : (f : Frame) (ts : List Task) (k : List Task → Settled) (o : Outcome) → Sound f ts o → ((us : List Task) → check f us ≡ Accepted → SettledSound f us (k us)) → SettledSound f ts (unlessSame k ts o)
 unless-same-sound f ts k NoPlan h g = h
@@ -87,6 +87,6 @@ unless-same-sound f ts k (Plan us) h g =
 
 pub settle-sound : (n : ℕ) (f : Frame) (ts : List Task) → check f ts ≡ Accepted → SettledSound f ts (settleWithin n f ts)
 unfolding settleWithin
-settle-sound zero f ts a = tt
+settle-sound zero f ts a = nothing-sound f ts a
 settle-sound (suc n) f ts a =
     unless-same-sound f ts (settleWithin n f) (pass f ts) (pass-sound f ts a) (settle-sound n f)

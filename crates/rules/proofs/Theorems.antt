@@ -20,7 +20,7 @@ use Rattle.rules.specs.Listing.{listing, samePlan, plans, count}
 use Rattle.rules.specs.Balance.{balance}
 use Rattle.rules.specs.Balance.Outcome.{NoPlan, Plan}
 use Rattle.rules.specs.Step.{sure, shortfall, needed, barred, listedDays, resourceStep}
-use Rattle.rules.specs.Settle.{pass, settle, sameTasks, rooms}
+use Rattle.rules.specs.Settle.{pass, settle, sameTasks, rooms, mostPasses}
 use Rattle.rules.specs.Settle.Settled.{Refused, After, Unsettled}
 use Rattle.rules.specs.Moves.{Move, move, play, onePass, passes, manyPasses, Stops}
 use Rattle.rules.specs.Fixed.{fixed, oneValue, oneResource}
@@ -97,19 +97,19 @@ module _ (f : Frame) (ts : List Task) (ok : check f ts ≡ Accepted) where
   fixed-choice v w cs h = pass-one-choice f ts ok v w cs h
 
   -- ---- settling ends, and its passes are at most one more than all that could be removed
-  pub settle-settles : settle f ts ≡ Unsettled → ⊥
-  settle-settles e = subst (Ended f (rooms ts + 1) ts) e (settle-ends f ts ok)
+  pub settle-settles : (us : List Task) → settle f ts ≡ Unsettled us → ⊥
+  settle-settles us e = subst (Ended f (mostPasses ts) ts) e (settle-ends f ts ok)
 
-  pub settle-bound : (k : ℕ) (us : List Task) → settle f ts ≡ After k us → (k ≤ rooms ts + 1) × (passes k f ts ≡ Plan us)
-  settle-bound k us e = subst (Ended f (rooms ts + 1) ts) e (settle-ends f ts ok)
+  pub settle-bound : (k : ℕ) (us : List Task) → settle f ts ≡ After k us → (k ≤ mostPasses ts) × (passes k f ts ≡ Plan us)
+  settle-bound k us e = subst (Ended f (mostPasses ts) ts) e (settle-ends f ts ok)
 
   -- it stops at the first pass that changes nothing
   pub settle-stops : (k : ℕ) (us : List Task) → settle f ts ≡ After k us → Stops f ts k us
   settle-stops k us e = settle-stopped f ts k us e
 
   -- and where it ends in no plan, the pass that finds none comes within as many
-  pub refusal-bound : settle f ts ≡ Refused → (k : ℕ) × (k ≤ rooms ts + 1) × (passes k f ts ≡ NoPlan)
-  refusal-bound e = subst (Ended f (rooms ts + 1) ts) e (settle-ends f ts ok)
+  pub refusal-bound : settle f ts ≡ Refused → (k : ℕ) × (k ≤ mostPasses ts) × (passes k f ts ≡ NoPlan)
+  refusal-bound e = subst (Ended f (mostPasses ts) ts) e (settle-ends f ts ok)
 
   -- because a step that changes something takes away some of what could be removed
   pub step-takes-room : (m : Move) (us : List Task) → move f m ts ≡ Plan us → sameTasks ts us ≡ false → rooms us < rooms ts

@@ -17,7 +17,7 @@ use Rattle.plan.specs.declared.Checked.{Checked}
 use Rattle.plan.specs.declared.Refusal.{Refusal}
 use Rattle.plan.specs.declared.Refusal.the-variants.{TooManyTasks, ResourceCount, RepeatedIdentifier, LimitOutside, RangeOutside, SetOutside, NoPlan, NoSuchResource, BandOutside}
 use Rattle.plan.specs.declared.Call.{Call}
-use Rattle.plan.specs.declared.Call.the-variants.{Check, Balance, Step, Pass, Settle}
+use Rattle.plan.specs.declared.Call.the-variants.{Check, Balance, Step, Pass, Settle, Within, MostPasses}
 use Rattle.plan.specs.declared.Answer.{Answer}
 use Rattle.plan.specs.declared.Answer.the-variants.{Done, Refused}
 use Rattle.plan.specs.Refusals.{Told, toldAnswer}
@@ -27,7 +27,7 @@ use Rattle.plan.specs.Tasks.{mostTasks, mostResources, mostBands}
 use Rattle.rules.specs.Frame.{Frame, resourceCount}
 use Rattle.rules.specs.Balance.{Outcome, balance}
 use Rattle.rules.specs.Step.{resourceStep}
-use Rattle.rules.specs.Settle.{Settled, pass, settle}
+use Rattle.rules.specs.Settle.{Settled, pass, settleWithin, mostPasses, settle}
 
 abbrev pub orElse : Checked → Checked → Checked
 orElse Checked.Accepted c = c
@@ -108,7 +108,8 @@ pub record Result : Type 0 where
 abbrev pub refused : Refusal → List Task → Result
 refused f ts = record { answer = Refused f; tasks = ts }
 
--- after so many passes of settling ("a refusal reports 0"; every other call reports 0 too)
+-- settled after so many passes ("a refusal reports 0"), or so many passes at most; every other call reports 0, settling too where the passes that it
+-- may make were too few
 abbrev pub done : ℕ → List Task → Result
 done n ts = record { answer = Done n; tasks = ts }
 
@@ -125,7 +126,7 @@ stepped ts (Outcome.Plan us) = done 0 us
 abbrev pub settled : List Task → Settled → Result
 settled ts Settled.Refused = refused NoPlan ts
 settled ts (Settled.After n us) = done n us
-settled ts Settled.Unsettled = refused NoPlan ts
+settled ts (Settled.Unsettled us) = done 0 us
 
 -- 12: "a resource step names a place not in the list", of so many resources
 abbrev pub placedIn : ℕ → Call → Bool
@@ -134,6 +135,8 @@ placedIn n Balance = true
 placedIn n (Step r) = ltb r n
 placedIn n Pass = true
 placedIn n Settle = true
+placedIn n (Within most) = true
+placedIn n MostPasses = true
 
 -- what a call answers and leaves of a plan that passed the checks
 abbrev pub answered : Call → Frame → List Task → Result
@@ -142,6 +145,8 @@ answered Balance f ts = stepped ts (balance ts)
 answered (Step r) f ts = stepped ts (resourceStep f r ts)
 answered Pass f ts = stepped ts (pass f ts)
 answered Settle f ts = settled ts (settle f ts)
+answered (Within most) f ts = settled ts (settleWithin most f ts)
+answered MostPasses f ts = done (mostPasses ts) ts
 
 -- the calls of the page
 unfoldable pub callOf : Call → Frame → List Task → Result

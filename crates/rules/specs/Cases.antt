@@ -34,7 +34,7 @@ task s o d e h = record { set = s; origin = spanOf o; duration = spanOf d; end =
 abbrev pub here : ℤ → ℤ → ℤ → ℤ → Task
 here o d e h = task 1 (one o) (one d) (one e) (one h)
 
-abbrev resource : ℤ → ℤ → Resource
+abbrev pub resource : ℤ → ℤ → Resource
 resource i l = record { id = i; limit = power l }
 
 abbrev pub limit : ℤ → List Resource

@@ -8,8 +8,10 @@ pub mod Settle
 pub mod Moves
 pub mod Fixed
 pub mod Calls
+pub mod Again
 pub mod Keeps
 pub mod Rises
 pub mod Negation
 pub mod Cases
 pub mod BandCases
+pub mod PassCases

@@ -28,7 +28,7 @@ negatedFrame f = record { sense = opposite (f .sense); resources = map negatedRe
 abbrev pub negatedSettled : Settled → Settled
 negatedSettled Settled.Refused = Settled.Refused
 negatedSettled (Settled.After n ts) = Settled.After n (map negated ts)
-negatedSettled Settled.Unsettled = Settled.Unsettled
+negatedSettled (Settled.Unsettled ts) = Settled.Unsettled (map negated ts)
 
 abbrev pub negatedResult : Result → Result
 negatedResult x = record { answer = x .answer; tasks = map negated (x .tasks) }

@@ -43,17 +43,17 @@ sameTasks [] (u ∷ us) = false
 sameTasks (t ∷ ts) [] = false
 sameTasks (t ∷ ts) (u ∷ us) = and (sameTask t u) (sameTasks ts us)
 
--- settled after so many passes, or no plan; `Unsettled` is what a bound on the passes would give if it were too small
+-- settled after so many passes, or no plan; or, where so many passes were too few to settle, what they left
 pub data Settled : Type 0 where
   Refused : Settled
   After : ℕ → List Task → Settled
-  Unsettled : Settled
+  Unsettled : List Task → Settled
 
 -- "The pass count includes that last one"
 abbrev pub onePassMore : Settled → Settled
 onePassMore Refused = Refused
 onePassMore (After n ts) = After (suc n) ts
-onePassMore Unsettled = Unsettled
+onePassMore (Unsettled ts) = Unsettled ts
 
 abbrev pub unlessSame : (List Task → Settled) → List Task → Outcome → Settled
 unlessSame k ts NoPlan = Refused
@@ -61,10 +61,10 @@ unlessSame k ts (Plan us) = if (sameTasks ts us) (After 1 us) (onePassMore (k us
 
 -- at most n passes
 unfoldable pub settleWithin : ℕ → Frame → List Task → Settled
-settleWithin zero f ts = Unsettled
+settleWithin zero f ts = Unsettled ts
 settleWithin (suc n) f ts = unlessSame (settleWithin n f) ts (pass f ts)
 
--- all that could be removed of a task: the sum of high minus low over its four ranges, plus its number of resources less one
+-- all that could be removed: "for every task the sum of high minus low over its four ranges, plus its number of resources less one"
 unfoldable pub room : Task → ℕ
 room t =
     width (daysOf (t .origin)) + width (daysOf (t .duration)) + width (daysOf (t .end)) + width (powersOf (t .height))
@@ -77,3 +77,7 @@ rooms (t ∷ ts) = room t + rooms ts
 -- the passes end: within one more than all that could be removed (the law `settle-ends`)
 unfoldable pub settle : Frame → List Task → Settled
 settle f ts = settleWithin (suc (rooms ts)) f ts
+
+-- "How many passes at most": "1 plus all that could be removed"
+abbrev pub mostPasses : List Task → ℕ
+mostPasses ts = 1 + rooms ts

@@ -49,6 +49,19 @@ pub fn at_least(limit: i64, tasks: &[Task]) -> Plan {
     plan(Sense::AtLeast, &[limit], tasks)
 }
 
+/// Case 9 of document 01, "whole output".
+pub fn case_9() -> Plan {
+    Plan {
+        sense: Sense::AtLeast,
+        resources: vec![Resource { id: 7, limit: 4 }, Resource { id: 9, limit: 3 }],
+        bands: Vec::new(),
+        tasks: vec![
+            wide(1, to(1, 2), to(2, 2), to(3, 4), to(0, 1)),
+            wide(3, to(0, 6), to(2, 2), to(2, 8), to(0, 4)),
+        ],
+    }
+}
+
 /// A band "place, first day, limit".
 pub fn band(place: usize, from: i64, limit: i64) -> Band {
     Band { place, from, limit }

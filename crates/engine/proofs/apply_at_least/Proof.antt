@@ -1,20 +1,24 @@
 -- Each call by its own function: what it leaves is what the page gives.
 use mathlib.Core.Path.{_≡_, sym, ap, _∙_}
 use mathlib.Core.List.{List}
+use Prim.Native.Nat.{ℕ, _^_}
+use native.Mathlib.Omega.{arith}
 use lib.Dec.{ltb}
 use lib.ListN.{length}
 use borrow.Author.Tests.{ltb-true}
 use Rattle.integers.proofs.Lists.{each-so}
 use Rattle.plan.specs.declared.Answer.{Answer}
 use Rattle.plan.specs.declared.Call.{Call}
-use Rattle.plan.specs.declared.Call.the-variants.{Check, Balance, Step, Pass}
+use Rattle.plan.specs.declared.Call.the-variants.{Check, Balance, Step, Pass, Within, MostPasses}
 use Rattle.plan.specs.declared.Task.{Task}
 use Rattle.rules.specs.Frame.{Frame}
 use Rattle.rules.specs.Balance.{balance}
 use Rattle.rules.specs.Step.{resourceStep}
 use Rattle.rules.specs.Settle.{pass}
-use Rattle.rules.specs.Calls.{placedIn, answered, callOf, resultOf}
+use Rattle.rules.specs.Calls.{placedIn, done, answered, callOf, resultOf}
 use Rattle.rules.proofs.Calls.{call-answered}
+use Rattle.rules.proofs.PassTheorems.{call-within}
+use Rattle.rules.proofs.Bounds.{rooms-most}
 use Rattle.rules.proofs.Checks.{accepts}
 use Rattle.rows.specs.View.{tasksOf, atLeast}
 use Rattle.rows.proofs.View.{length-resources}
@@ -23,6 +27,9 @@ use Rattle.engine.proofs.Calls.{left-result}
 use borrow.Author.Needs.{needs}
 use Rattle.engine.proofs.apply_at_least.Statement.{statement}
 use Rattle.engine.proofs.apply_at_least.Tie as tie
+
+abbrev enoughPasses : ℕ
+enoughPasses = 2 ^ 32
 
 abbrev f : tie.Start → Frame
 f c = atLeast (c .args .q .now) (c .args .b .now)
@@ -84,6 +91,20 @@ enum-told-4 c = search needs
 
 settle-rows-requires : tie.Need-settle-rows-requires
 settle-rows-requires c κs = search needs
+
+enum-known-c-2 : tie.Need-enum-known-c-2
+enum-known-c-2 c = search needs
+
+settle-rows-requires-2 : tie.Need-settle-rows-requires-2
+settle-rows-requires-2 c κs = search needs
+
+enum-told-5 : tie.Need-enum-told-5
+enum-told-5 c = search needs
+
+most-passes-requires : tie.Need-most-passes-requires
+most-passes-requires c κs =
+    let b = c .before .before .before .before .before in
+    (f b, b .pre .1 .accepted)
 
 returns : tie.Need-returns
 returns c =
@@ -162,7 +183,36 @@ returns-5 c =
     let d = c .before .before .before .before .before .before in
     let e = d .before .before .before .before .before in
     let b = e .before .before .before .before in
-    d .settle-rows .ensures ∙ ap (λ (x : Call). callOf x (f b) (ts b)) (sym (e .enum-told4 .given .1))
+    let few = rooms-most (f b) (ts b) (b .pre .1 .accepted) in
+    d .settle-rows .ensures ∙ call-within (f b) (ts b) enoughPasses (omega arith) ∙ ap (λ (x : Call). callOf x (f b) (ts b)) (sym (e .enum-told4 .given .1))
+
+same-length-14 : tie.Need-same-length-14
+same-length-14 c = search needs
+
+same-length-15 : tie.Need-same-length-15
+same-length-15 c = search needs
+
+same-length-16 : tie.Need-same-length-16
+same-length-16 c = search needs
+
+same-length-17 : tie.Need-same-length-17
+same-length-17 c = search needs
+
+returns-6 : tie.Need-returns-6
+returns-6 c =
+    let d = c .before .before .before .before .before .before in
+    let e = d .before .before .before .before .before .before in
+    let b = e .before .before .before .before in
+    d .settle-rows2 .ensures ∙ ap (λ (x : Call). callOf x (f b) (ts b)) (sym (e .c2 .given .1))
+
+same-length-18 : tie.Need-same-length-18
+same-length-18 c = search needs
+
+returns-7 : tie.Need-returns-7
+returns-7 c =
+    let e = c .before .before in
+    let b = e .before .before .before .before in
+    ap (λ (n : ℕ). done n (ts b)) (c .most-passes .ensures) ∙ answers b MostPasses (e .enum-told5 .given .1)
 
 pub apply-at-least-spec : {M : Type 1} → statement M
 apply-at-least-spec =
@@ -181,6 +231,10 @@ apply-at-least-spec =
     left-if-requires-3
     enum-told-4
     settle-rows-requires
+    enum-known-c-2
+    settle-rows-requires-2
+    enum-told-5
+    most-passes-requires
     returns
     same-length
     returns-2
@@ -198,4 +252,11 @@ apply-at-least-spec =
     same-length-11
     same-length-12
     same-length-13
-    returns-5)
+    returns-5
+    same-length-14
+    same-length-15
+    same-length-16
+    same-length-17
+    returns-6
+    same-length-18
+    returns-7)

@@ -2,8 +2,8 @@
 use native.Mathlib.Omega.{arith}
 use Rattle.plan.proofs.Refusals.{number-ends}
 use borrow.Author.Needs.{needs}
-use Rattle.calls.proofs.refusal_number.Statement.{statement}
-use Rattle.calls.proofs.refusal_number.Tie as tie
+use Rattle.looks.proofs.refusal_number.Statement.{statement}
+use Rattle.looks.proofs.refusal_number.Tie as tie
 
 number-requires : tie.Need-number-requires
 number-requires c κs = search needs

@@ -1,0 +1,2 @@
+-- What the bound on passes asks of the tasks.
+pub mod Entered

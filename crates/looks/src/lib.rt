@@ -1,0 +1,74 @@
+// What is asked of a plan file in memory without an output: whether it is a plan that passes the entry checks, and how many passes settling it makes at
+// most; and a refusal as one number.
+ghost use mathlib.Core.Path.{_≡_};
+ghost use Rattle.plan.specs.declared.Answer.the-variants.{Refused};
+ghost use Rattle.rows.specs.View.{tasksOf};
+ghost use Rattle.bound.specs.Entered.{Entered};
+ghost use Rattle.format.specs.Reading.{readPlan};
+ghost use Rattle.answers.specs.Files.{answerNumber, readNumber, checkFile, mostFile};
+ghost use Rattle.looks.specs.Looked.{lookedFor};
+use format::HeaderAnswer;
+use format::Run;
+use plan::MOST_BANDS;
+use plan::MOST_RESOURCES;
+use plan::MOST_TASKS;
+use plan::Refusal;
+use rows::BAND_CELLS;
+use rows::RESOURCE_CELLS;
+use rows::TASK_CELLS;
+use rows::TaskRow;
+
+// include/gristwaltz.h: the refusal number times 2^32 plus the place.
+pub const PLACES: u64 = 1 << 32;
+
+pub fn refusal_number(f: Refusal) -> u64
+    ensures { λ r. ⌜ r ≡ answerNumber (Refused f) ⌝ }
+{
+    f.number() * PLACES + (f.place() as u64) % PLACES
+}
+
+// 0, or where it is asked for the most passes.
+fn looked_for(counted: bool, s: &[TaskRow]) -> u64
+    requires { ⌜ Entered (tasksOf (now s)) ⌝ }
+    ensures { λ r. ⌜ r ≡ lookedFor counted (tasksOf (now (s .entry))) ⌝ }
+{
+    if counted { bound::most_passes(s) } else { 0 }
+}
+
+// The file is read into rows of our own, and they are looked at.
+fn look_at_file(counted: bool, file: &[u8]) -> u64
+    ensures { λ r. ⌜ r ≡ readNumber (lookedFor counted) (readPlan (now (file .entry))) ⌝ }
+{
+    let resource = [0i64; RESOURCE_CELLS];
+    let band = [0i64; BAND_CELLS];
+    let task = [0i64; TASK_CELLS];
+    let mut resources = [resource; MOST_RESOURCES];
+    let mut bands = [band; MOST_BANDS];
+    let mut tasks = [task; MOST_TASKS];
+    match file::read_header(file) {
+        HeaderAnswer::Refused(f) => refusal_number(f),
+        HeaderAnswer::Counts(h) => {
+            match file::read_rest(file, h, &mut resources, &mut bands, &mut tasks) {
+                Run::Refused(f) => refusal_number(f),
+                Run::Through(_) => {
+                    let m = h.tasks;
+                    looked_for(counted, &tasks[..m])
+                }
+            }
+        }
+    }
+}
+
+// Whether a file is a plan that passes the entry checks.
+pub fn check_file(file: &[u8]) -> u64
+    ensures { λ r. ⌜ r ≡ checkFile (now (file .entry)) ⌝ }
+{
+    look_at_file(false, file)
+}
+
+// How many passes settling the plan of a file makes at most.
+pub fn most_passes(file: &[u8]) -> u64
+    ensures { λ r. ⌜ r ≡ mostFile (now (file .entry)) ⌝ }
+{
+    look_at_file(true, file)
+}
