@@ -1,14 +1,12 @@
 -- How many passes at most, of the calls on plan files, as statements; and settling a file in several calls. `mostFile file` is what
 -- gristwaltz_most_passes answers, `fileCall (Within most) file out` the promise of gristwaltz_settle_within.
 use mathlib.Core.Path.{_≡_, refl, sym, ap, _∙_, subst}
-use mathlib.Core.Bool.{true, false}
-use mathlib.Core.List.{List, [], _∷_, map}
+use mathlib.Core.List.{List, [], _∷_}
 use Prim.Native.Nat.{ℕ, suc, _+_, _*_, _/_, _^_, _≤_, _<_}
 use native.Mathlib.Omega.{arith}
 use lib.ListN.{length}
 use borrow.Author.Tests.{ne-eqb}
-use Rattle.integers.specs.Lists.{Each}
-use Rattle.integers.specs.Lists.Each.{nothing, also}
+use Rattle.integers.specs.Lists.Each.{also}
 use Rattle.plan.specs.declared.Task.{Task}
 use Rattle.plan.specs.declared.Call.the-variants.{Settle, Within, MostPasses}
 use Rattle.plan.specs.declared.Checked.{Checked}
@@ -34,11 +32,11 @@ use Rattle.rules.proofs.PassTheorems.{call-within, most-done, failing-within, a
 use Rattle.format.specs.Numbers.{AllBytes}
 use Rattle.format.specs.Format.{fileLength}
 use Rattle.format.specs.Reading.{Read, readPlan}
-use Rattle.format.specs.Writing.{written, roomFor, Good}
+use Rattle.format.specs.Writing.{written, Good}
 use Rattle.format.proofs.Files.{whole, length-written}
 use Rattle.format.proofs.RoundTrip.{accepted-written}
-use Rattle.answers.specs.Files.{oneNumber, FileResult, fileResult, afterRead, lentDue, planCall, fileCall, readNumber, mostFile, refusalIn, fileLeft, Part, settleFileAgain}
-use Rattle.answers.specs.Outcomes.{readOutcome, fileOutcome, Apart}
+use Rattle.answers.specs.Files.{oneNumber, FileResult, fileResult, afterRead, lentDue, planCall, fileCall, readNumber, mostFile, refusalIn, fileLeft, Part, mosts, Roomy, settleFileAgain}
+use Rattle.answers.specs.Outcomes.{readOutcome, Apart}
 use Rattle.answers.proofs.Answers.{call-apart}
 use Rattle.answers.proofs.FileTheorems.{file-call, good-left}
 use Rattle.answers.proofs.GoesOn.{call-left, call-number}
@@ -112,13 +110,6 @@ module _ (f : Frame) (ts : List Task) (g : Good f ts) (most : ℕ) (s : Settled)
 same-length : (f : Frame) (ts us : List Task) → Keeps f ts us → length (written f us) ≡ length (written f ts)
 same-length f ts us k =
     length-written f us ∙ ap (λ (n : ℕ). fileLength (resourceCount f) (length (f .bands)) n) (subs-length (k .inside)) ∙ sym (length-written f ts)
-
--- every output has room for a file of so many bytes
-abbrev Roomy : ℕ → List Part → Type 0
-Roomy n parts = Each (λ p. n ≤ length (p .out)) parts
-
-abbrev mosts : List Part → List ℕ
-mosts parts = map (λ p. p .most) parts
 
 -- the calls on files come to what the calls over lists come to
 again-written : (f : Frame) (parts : List Part) (before : ℕ) (ts : List Task) → Good f ts → Roomy (length (written f ts)) parts → settleFileAgain before parts (written f ts) ≡ fileResult (oneNumber (settleAgain before (mosts parts) f ts .answer)) (written f (settleAgain before (mosts parts) f ts .tasks))

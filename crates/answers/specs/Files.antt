@@ -2,10 +2,11 @@
 -- and 9 as each record is due, 1 and 2 after the first, 13 for a 65th band, then 3, 4, 13, 5 and 6), then 12 for a place, 10 for an output shorter than the file, then 7.
 use mathlib.Core.Path.{_≡_}
 use mathlib.Core.Bool.{not}
-use mathlib.Core.List.{List, [], _∷_}
-use Prim.Native.Nat.{ℕ, suc, _+_, _*_, _/_, _%_, _^_}
+use mathlib.Core.List.{List, [], _∷_, map}
+use Prim.Native.Nat.{ℕ, suc, _+_, _*_, _/_, _%_, _^_, _≤_}
 use lib.Dec.{eqb}
 use lib.ListN.{length, getD, take}
+use Rattle.integers.specs.Lists.{Each}
 use Rattle.integers.specs.Tests.{if}
 use Rattle.plan.specs.declared.Task.{Task}
 use Rattle.plan.specs.declared.Call.{Call}
@@ -104,6 +105,13 @@ filesLeft (a ∷ asked) file = filesLeft asked (fileLeft (a .call) file (a .out)
 pub record Part : Type 0 where
   pub most : ℕ
   pub out : List ℕ
+
+abbrev pub mosts : List Part → List ℕ
+mosts parts = map (λ p. p .most) parts
+
+-- every output has room for a file of so many bytes
+abbrev pub Roomy : ℕ → List Part → Type 0
+Roomy n parts = Each (λ p. n ≤ length (p .out)) parts
 
 -- until an answer is not 0: a refusal, or a count, to which the host adds the passes of the calls before; the answer, and the file as it is then
 unfoldable pub settleFileAgain : ℕ → List Part → List ℕ → FileResult

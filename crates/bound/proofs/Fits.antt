@@ -1,7 +1,5 @@
 -- The ranges of a task that passed the checks: how far apart their ends are, and that its set has a resource.
-use mathlib.Core.Path.{_≡_, ap}
-use mathlib.Core.Bool.{false}
-use Prim.Native.Nat.{ℕ, suc, _≤_, _^_}
+use Prim.Native.Nat.{_≤_}
 use native.Mathlib.Omega.{arith}
 use lib.Dec.{eqb}
 use lib.IntN.{ℤ, _-ℤ_, natAbs}

@@ -1,5 +1,5 @@
 -- The passes of settling, counted on: one pass more is one pass more, and one fewer is left to make.
-use mathlib.Core.Path.{_≡_, refl, sym, ap, _∙_, subst}
+use mathlib.Core.Path.{_≡_, sym, ap, _∙_, subst}
 use mathlib.Core.Bool.{Bool, true, false, not}
 use mathlib.Core.List.{List}
 use Prim.Native.Nat.{ℕ, suc, _+_, _-_, _≤_, _<_}
@@ -9,7 +9,7 @@ use Rattle.plan.specs.declared.Task.{Task}
 use Rattle.plan.specs.declared.Checked.the-variants.{Accepted}
 use Rattle.rules.specs.Frame.{Frame}
 use Rattle.rules.specs.Balance.Outcome.{Plan}
-use Rattle.rules.specs.Settle.{pass, sameTasks, Settled, onePassMore, settleWithin}
+use Rattle.rules.specs.Settle.{pass, sameTasks, settleWithin}
 use Rattle.rules.specs.Settle.Settled.{Refused, After, Unsettled}
 use Rattle.rules.specs.Calls.{check}
 use Rattle.rules.proofs.Keeps.{Sound}

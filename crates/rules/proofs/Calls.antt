@@ -2,7 +2,7 @@
 use mathlib.Core.Path.{_≡_, refl, sym, ap, subst}
 use mathlib.Core.Bool.{true, false, not}
 use mathlib.Core.List.{List}
-use Prim.Native.Nat.{ℕ, suc, _+_}
+use Prim.Native.Nat.{ℕ, suc}
 use native.Mathlib.Omega.{arith}
 use borrow.Author.Tests.{ltb-true}
 use Rattle.integers.proofs.Tests.{by-cases}
@@ -57,7 +57,7 @@ module _ (f : Frame) (ts : List Task) where
   settled-fair : (s : Settled) → check f ts ≡ Accepted → SettledSound f ts s → Fair f ts (settled ts s)
   settled-fair Settled.Refused a h = refused-fair NoPlan a (λ e. h)
   settled-fair (Settled.After n us) a h = record { keeps = h; none = not-done n }
-  settled-fair (Settled.Unsettled us) a h = record { keeps = h; none = not-done 0 }
+  settled-fair (Settled.Unsettled us) a h = record { keeps = h; none = not-done _ }
 
   answered-fair : (c : Call) → check f ts ≡ Accepted → placedIn (resourceCount f) c ≡ true → Fair f ts (answered c f ts)
   unfolding settle

@@ -1,7 +1,7 @@
 -- Settling ends: each pass but the last takes some room away, so there is at most one pass more than there is room, and a pass that
 -- finds no plan comes within as many. So more passes than these are never made, and settling within as many is settling.
 use mathlib.Core.Path.{_≡_, refl, sym, ap, _∙_, subst}
-use Prim.Native.Nat.{ℕ, zero, suc, _+_, _≤_, _<_}
+use Prim.Native.Nat.{ℕ, zero, suc, _≤_, _<_}
 use native.Mathlib.Omega.{arith}
 use mathlib.Core.Bool.{true, false}
 use mathlib.Core.List.{List}

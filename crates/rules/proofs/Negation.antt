@@ -32,9 +32,9 @@ use Rattle.rules.specs.Frame.{Frame, resourceCount, resourceAt, placesFr
 use Rattle.rules.specs.Balance.{Outcome, andThen, each, cuts, unlessEmpty, balanced, balance}
 use Rattle.rules.specs.Balance.Outcome.{NoPlan, Plan}
 use Rattle.rules.specs.Step.{negated, negatedPlan, atLeastStep, senseStep, resourceStep}
-use Rattle.rules.specs.Settle.{then, steps, pass, sameRanges, sameTask, sameTasks, Settled, onePassMore, unlessSame, settleWithin, settle, room, rooms, mostPasses}
+use Rattle.rules.specs.Settle.{then, steps, pass, sameRanges, sameTask, sameTasks, Settled, onePassMore, unlessSame, settleWithin, settle, room, rooms}
 use Rattle.rules.specs.Settle.Settled.{Refused, After, Unsettled}
-use Rattle.rules.specs.Calls.{orElse, refuseIf, repeats, limits, rangesFit, setFits, tasksFit, earlier, bandEnds, bandFits, bandsAfter, bandsFit, check, Result, done, unlessRefused, stepped, settled, placedIn, answered, callOf}
+use Rattle.rules.specs.Calls.{orElse, refuseIf, repeats, limits, rangesFit, setFits, tasksFit, earlier, bandEnds, bandFits, bandsAfter, bandsFit, check, Result, unlessRefused, stepped, settled, placedIn, answered, callOf}
 use Rattle.rules.specs.Negation.{opposite, negatedResource, negatedBand, negatedFrame, negatedSettled, negatedResult}
 use Rattle.rules.proofs.Bands.{limit-bands-negated}
 

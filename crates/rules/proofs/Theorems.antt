@@ -3,7 +3,7 @@
 -- same allowed plans, passes the checks again and lies inside ts, `HoldsNone f ts` that ts has none. Nothing is asked of the ranges beyond the
 -- checks: they may be unbalanced. The frame f is what no step changes.
 use mathlib.Core.Path.{_≡_, ap, subst}
-use Prim.Native.Nat.{ℕ, suc, _+_, _≤_, _<_}
+use Prim.Native.Nat.{ℕ, suc, _≤_, _<_}
 use mathlib.Core.List.{List, [], _∷_, map}
 use mathlib.Core.Bool.{true, false}
 use lib.ListN.{length}

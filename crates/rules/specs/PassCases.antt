@@ -4,7 +4,6 @@ use mathlib.Core.List.{List, [], _∷_}
 use lib.IntN.{pos, negsuc}
 use Rattle.integers.specs.Hull.{range}
 use Rattle.plan.specs.declared.Task.{Task}
-use Rattle.plan.specs.declared.Resource.{Resource}
 use Rattle.plan.specs.declared.Sense.the-variants.{AtMost, AtLeast}
 use Rattle.plan.specs.declared.Call.the-variants.{Settle, Within, MostPasses}
 use Rattle.plan.specs.declared.Refusal.the-variants.{RangeOutside, SetOutside, NoPlan}

@@ -1,7 +1,6 @@
 -- The four differences, and the resources less one.
 use borrow.Author.Needs.{needs}
 use native.Mathlib.Omega.{arith}
-use mathlib.Core.Path.{_≡_}
 use Prim.Native.Nat.{_≤_}
 use Rattle.integers.specs.Hull.{width}
 use Rattle.integers.proofs.Z.{z}

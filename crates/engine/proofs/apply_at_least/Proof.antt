@@ -9,7 +9,7 @@ use borrow.Author.Tests.{ltb-true}
 use Rattle.integers.proofs.Lists.{each-so}
 use Rattle.plan.specs.declared.Answer.{Answer}
 use Rattle.plan.specs.declared.Call.{Call}
-use Rattle.plan.specs.declared.Call.the-variants.{Check, Balance, Step, Pass, Within, MostPasses}
+use Rattle.plan.specs.declared.Call.the-variants.{Check, Balance, Step, Pass, MostPasses}
 use Rattle.plan.specs.declared.Task.{Task}
 use Rattle.rules.specs.Frame.{Frame}
 use Rattle.rules.specs.Balance.{balance}

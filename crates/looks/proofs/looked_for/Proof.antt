@@ -1,6 +1,6 @@
 -- The most passes, or nothing.
 use borrow.Author.Needs.{needs}
-use mathlib.Core.Path.{_≡_, sym, ap, _∙_}
+use mathlib.Core.Path.{sym, ap, _∙_}
 use mathlib.Core.Bool.{Bool}
 use Rattle.rows.specs.View.{tasksOf}
 use Rattle.looks.specs.Looked.{lookedFor}

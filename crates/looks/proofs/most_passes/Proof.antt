@@ -4,12 +4,28 @@ use Rattle.answers.specs.Files.{mostFile}
 use Rattle.looks.proofs.most_passes.Statement.{statement}
 use Rattle.looks.proofs.most_passes.Tie as tie
 
-look-at-file-requires : tie.Need-look-at-file-requires
-look-at-file-requires c κs = search needs
+slice-aggregate-look-at-rows : tie.Need-slice-aggregate-look-at-rows
+slice-aggregate-look-at-rows c = search needs
+
+slice-aggregate-look-at-rows-2 : tie.Need-slice-aggregate-look-at-rows-2
+slice-aggregate-look-at-rows-2 c = search needs
+
+slice-aggregate-look-at-rows-3 : tie.Need-slice-aggregate-look-at-rows-3
+slice-aggregate-look-at-rows-3 c = search needs
+
+look-at-rows-requires : tie.Need-look-at-rows-requires
+look-at-rows-requires c κs = search needs
 
 returns : tie.Need-returns
 unfolding mostFile
-returns c = c .look-at-file .ensures
+returns c = c .before .before .before .look-at-rows .ensures
 
 pub most-passes-spec : {M : Type 1} → statement M
-most-passes-spec = tie.close (tie.spec look-at-file-requires returns)
+most-passes-spec =
+    tie.close
+    (tie.spec
+    slice-aggregate-look-at-rows
+    slice-aggregate-look-at-rows-2
+    slice-aggregate-look-at-rows-3
+    look-at-rows-requires
+    returns)

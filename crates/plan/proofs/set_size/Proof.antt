@@ -1,6 +1,5 @@
 -- The language's own count of ones.
 use native.Mathlib.Omega.{arith}
-use mathlib.Core.Path.{_≡_}
 use lib.Count.{ones, ones-le}
 use Rattle.plan.proofs.Sets.{ones-size}
 use Rattle.plan.proofs.set_size.Statement.{statement}

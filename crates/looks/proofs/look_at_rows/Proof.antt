@@ -12,12 +12,12 @@ use Rattle.plan.specs.Tasks.{mostBands}
 use Rattle.format.specs.declared.Header.{Header}
 use Rattle.format.specs.declared.HeaderAnswer.{HeaderAnswer}
 use Rattle.format.specs.declared.Run.{Run}
-use Rattle.format.specs.Reading.{Read, readThrough, headerPlan, planAfter, readAfter, readPlan}
+use Rattle.format.specs.Reading.{readThrough, headerPlan, planAfter, readAfter, readPlan}
 use Rattle.format.proofs.Files.{Few, header-few, after-is}
 use Rattle.answers.specs.Files.{readNumber}
 use Rattle.looks.specs.Looked.{lookedFor}
-use Rattle.looks.proofs.look_at_file.Statement.{statement}
-use Rattle.looks.proofs.look_at_file.Tie as tie
+use Rattle.looks.proofs.look_at_rows.Statement.{statement}
+use Rattle.looks.proofs.look_at_rows.Tie as tie
 
 -- the header
 module _ (c : tie.After-read-header) where
@@ -52,7 +52,9 @@ module _ (c : tie.After-read-rest) where
   s = c .read-rest .last .1 .1 .1 .1 .0
 
   read-as : (a : Run) → c .read-rest .result ≡ a → readThrough a (headerPlan h q b s) ≡ readAfter mostBands h file
-  read-as a e = ap (λ (x : Run). readThrough x (headerPlan h q b s)) (sym e) ∙ c .read-rest .ensures .0
+  read-as a e =
+      ap (λ (x : Run). readThrough x (headerPlan h q b s)) (sym e) ∙ c .read-rest .ensures .0
+      ∙ ap (λ (n : ℕ). readAfter n h file) (start (counts .before .before) .pre .1)
 
   few : Few h
   few =
@@ -60,7 +62,7 @@ module _ (c : tie.After-read-rest) where
       header-few file (sym (d .read-header .ensures) ∙ counts .h .given .1)
 
   few-tasks : h .tasks ≤ length s
-  few-tasks = omega (arith, few .tasks, c .read-rest .kept .1 .1 .1 .1 .0)
+  few-tasks = omega (arith, few .tasks, start (counts .before .before) .pre .2, c .read-rest .kept .1 .1 .1 .1 .0)
 
   rest-as : (a : Run) → c .read-rest .result ≡ a → readNumber (asked (counts .before .before)) (readThrough a (headerPlan h q b s)) ≡ readNumber (asked (counts .before .before)) (readPlan file)
   rest-as a e =
@@ -79,21 +81,12 @@ refusal-number-requires c κs = search needs
 enum-known-h : tie.Need-enum-known-h
 enum-known-h c = search needs
 
-slice-aggregate-read-rest : tie.Need-slice-aggregate-read-rest
-slice-aggregate-read-rest c = search needs
-
-slice-aggregate-read-rest-2 : tie.Need-slice-aggregate-read-rest-2
-slice-aggregate-read-rest-2 c = search needs
-
-slice-aggregate-read-rest-3 : tie.Need-slice-aggregate-read-rest-3
-slice-aggregate-read-rest-3 c = search needs
-
 read-rest-requires : tie.Need-read-rest-requires
 read-rest-requires c κs =
     let m = c .before .before .before .before in
     let d = m .before .before in
     let few = header-few (start d .args .file .now) (sym (d .read-header .ensures) ∙ m .h .given .1) in
-    (few .resources, few .tasks)
+    (omega (arith, few .resources, start d .pre .0), omega (arith, few .tasks, start d .pre .2))
 
 enum-known-f-2 : tie.Need-enum-known-f-2
 enum-known-f-2 c = search needs
@@ -104,8 +97,8 @@ refusal-number-requires-2 c κs = search needs
 enum-told : tie.Need-enum-told
 enum-told c = search needs
 
-array-share-prefix-tasks : tie.Need-array-share-prefix-tasks
-array-share-prefix-tasks c = few-tasks (c .before .before .before .before .before)
+slice-reshare-prefix-looked-for : tie.Need-slice-reshare-prefix-looked-for
+slice-reshare-prefix-looked-for c = few-tasks (c .before .before .before .before .before)
 
 slice-aggregate-looked-for : tie.Need-slice-aggregate-looked-for
 slice-aggregate-looked-for c =
@@ -123,10 +116,28 @@ returns c =
     let m = c .before .before in
     c .refusal-number .ensures ∙ header-as (m .before .before) (HeaderAnswer.Refused (m .f .given .0 .0)) (m .f .given .1)
 
+same-length : tie.Need-same-length
+same-length c = search needs
+
+same-length-2 : tie.Need-same-length-2
+same-length-2 c = search needs
+
+same-length-3 : tie.Need-same-length-3
+same-length-3 c = search needs
+
 returns-2 : tie.Need-returns-2
 returns-2 c =
     let m = c .before .before in
     c .refusal-number2 .ensures ∙ rest-as (m .before .before .before .before .before) (Run.Refused (m .f2 .given .0 .0)) (m .f2 .given .1)
+
+same-length-4 : tie.Need-same-length-4
+same-length-4 c = search needs
+
+same-length-5 : tie.Need-same-length-5
+same-length-5 c = search needs
+
+same-length-6 : tie.Need-same-length-6
+same-length-6 c = search needs
 
 returns-3 : tie.Need-returns-3
 returns-3 c =
@@ -135,24 +146,27 @@ returns-3 c =
     let e = m .enum-told .given in
     c .looked-for .ensures ∙ rest-as d (Run.Through (e .0 .0)) (e .1)
 
-pub look-at-file-spec : {M : Type 1} → statement M
-look-at-file-spec =
+pub look-at-rows-spec : {M : Type 1} → statement M
+look-at-rows-spec =
     tie.close
     (tie.spec
     read-header-requires
     enum-known-f
     refusal-number-requires
     enum-known-h
-    slice-aggregate-read-rest
-    slice-aggregate-read-rest-2
-    slice-aggregate-read-rest-3
     read-rest-requires
     enum-known-f-2
     refusal-number-requires-2
     enum-told
-    array-share-prefix-tasks
+    slice-reshare-prefix-looked-for
     slice-aggregate-looked-for
     looked-for-requires
     returns
+    same-length
+    same-length-2
+    same-length-3
     returns-2
+    same-length-4
+    same-length-5
+    same-length-6
     returns-3)
