@@ -1,7 +1,7 @@
 -- A host that cuts off long calls makes passes one by one, each on the file that the one before left, until one leaves the same bytes: that is
 -- settling, which counts them. Every output has room for the file.
 use mathlib.Core.Path.{_≡_, refl, sym, ap, _∙_, subst}
-use mathlib.Core.Bool.{true, false}
+use mathlib.Core.Bool.{true}
 use mathlib.Core.List.{List}
 use Prim.Native.Nat.{ℕ, suc, _≤_}
 use native.Mathlib.Omega.{arith}

@@ -9,7 +9,7 @@ use Rattle.plan.specs.declared.Answer.the-variants.{Done, Refused}
 use Rattle.plan.specs.Refusals.{number, place}
 use Rattle.rules.specs.Settle.{mostPasses}
 use Rattle.format.specs.Reading.{Read, readPlan}
-use Rattle.answers.specs.Files.{checked, planCall, refusalIn}
+use Rattle.answers.specs.Files.{planCall, refusalIn}
 
 -- the reader's refusal; else 12 for a place or 10 for an output that is too short; else what the page's call answers
 abbrev pub readOutcome : Call → List ℕ → Read → Answer
@@ -25,7 +25,7 @@ entryOutcome asked (Read.Plan f ts) = Done (asked ts)
 entryOutcome asked (Read.Refuse e) = Refused e
 
 abbrev pub checkOutcome : List ℕ → Answer
-checkOutcome file = entryOutcome checked (readPlan file)
+checkOutcome file = entryOutcome (λ ts. 0) (readPlan file)
 
 abbrev pub mostOutcome : List ℕ → Answer
 mostOutcome file = entryOutcome mostPasses (readPlan file)

@@ -1,7 +1,6 @@
 -- The ranges of a task that passed the checks: how far apart their ends are, and that its set has a resource.
 use Prim.Native.Nat.{_≤_}
 use native.Mathlib.Omega.{arith}
-use lib.Dec.{eqb}
 use lib.IntN.{ℤ, _-ℤ_, natAbs}
 use lib.Signed.{_≤ℤ_}
 use mir.Syntax.{w64}

@@ -24,7 +24,7 @@ use rows::TASK_CELLS;
 use rows::TaskRow;
 
 // include/gristwaltz.h: the refusal number times 2^32 plus the place.
-pub const PLACES: u64 = 1 << 32;
+const PLACES: u64 = 1 << 32;
 
 pub fn refusal_number(f: Refusal) -> u64
     ensures { λ r. ⌜ r ≡ answerNumber (Refused f) ⌝ }

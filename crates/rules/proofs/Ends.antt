@@ -20,6 +20,9 @@ use Rattle.rules.proofs.Keeps.{Sound}
 use Rattle.rules.proofs.Passes.{pass-sound}
 use Rattle.rules.proofs.Rooms.{keeps-less, same-tasks-is}
 
+pub same-plan : {vs ws : List Task} → Plan vs ≡ Plan ws → vs ≡ ws
+same-plan e = cc
+
 module _ (f : Frame) where
   -- settled after so many passes in a row, or refused by one of them, within b
   abbrev pub Ended : ℕ → List Task → Settled → Type 0
@@ -128,9 +131,6 @@ module _ (f : Frame) where
   Stopped ts Refused = Unit {0}
   Stopped ts (After k us) = Stops f ts k us
   Stopped ts (Unsettled us) = Unit {0}
-
-  same-plan : {vs ws : List Task} → Plan vs ≡ Plan ws → vs ≡ ws
-  same-plan e = cc
 
   -- the pass before them changed something
   stops-more : (ts us : List Task) → pass f ts ≡ Plan us → sameTasks ts us ≡ false → (k : ℕ) (ws : List Task) → Stops f us k ws → Stops f ts (suc k) ws

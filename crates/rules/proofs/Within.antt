@@ -15,7 +15,7 @@ use Rattle.rules.specs.Settle.Settled.{Refused, After, Unsettled}
 use Rattle.rules.specs.Moves.{passes}
 use Rattle.rules.specs.Calls.{check}
 use Rattle.rules.proofs.Rooms.{same-tasks-is}
-use Rattle.rules.proofs.Ends.{within-most}
+use Rattle.rules.proofs.Ends.{same-plan, within-most}
 
 -- ---- n passes before those that s counts
 abbrev pub plusPasses : ℕ → Settled → Settled
@@ -154,9 +154,6 @@ module _ (f : Frame) where
     pub within-left : (us : List Task) → passes n f ts ≡ Plan us → ((k : ℕ) (vs : List Task) → settle f ts ≡ After k vs → n < k) → settleWithin n f ts ≡ Unsettled us
     within-left us e m = go (settleWithin n f ts) refl
       where
-        same-plan : {vs ws : List Task} → Plan vs ≡ Plan ws → vs ≡ ws
-        same-plan h = cc
-
         go : (s : Settled) → settleWithin n f ts ≡ s → settleWithin n f ts ≡ Unsettled us
         go Refused d = absurd (let h = sym (reached-by Refused d) ∙ e in let q : _≡_ {A = ℕ} 0 1 = cc in omega arith)
         go (After k vs) d = absurd (let r = settled-within k vs d in let l = r .1 in let g = m k vs (r .2) in omega arith)
@@ -165,11 +162,8 @@ module _ (f : Frame) where
   -- ---- one pass more, on what so many left
   pub next-pass : (k : ℕ) (ts us : List Task) → passes k f ts ≡ Plan us → passes (suc k) f ts ≡ pass f us
   unfolding passes
-  next-pass zero ts us e = then-plan (pass f ts) ∙ ap (pass f) (plan-once e)
+  next-pass zero ts us e = then-plan (pass f ts) ∙ ap (pass f) (same-plan e)
     where
-      plan-once : {vs ws : List Task} → Plan vs ≡ Plan ws → vs ≡ ws
-      plan-once h = cc
-
       then-plan : (o : Outcome) → then o (passes 0 f) ≡ o
       then-plan NoPlan = refl
       then-plan (Plan vs) = refl

@@ -1,13 +1,15 @@
 -- "How many passes at most", and settling within so many, by plans worked out by hand.
-use Prim.Native.Nat.{ℕ}
+use Prim.Native.Nat.{ℕ, suc}
 use mathlib.Core.List.{List, [], _∷_}
 use lib.IntN.{pos, negsuc}
 use Rattle.integers.specs.Hull.{range}
 use Rattle.plan.specs.declared.Task.{Task}
 use Rattle.plan.specs.declared.Sense.the-variants.{AtMost, AtLeast}
 use Rattle.plan.specs.declared.Call.the-variants.{Settle, Within, MostPasses}
-use Rattle.plan.specs.declared.Refusal.the-variants.{RangeOutside, SetOutside, NoPlan}
-use Rattle.rules.specs.Frame.{Frame, plain}
+use Rattle.plan.specs.declared.Refusal.the-variants.{RangeOutside, SetOutside, NoPlan, BandOutside}
+use Rattle.plan.specs.Days.{day}
+use Rattle.plan.specs.Powers.{power}
+use Rattle.rules.specs.Frame.{Frame, plain, framed}
 use Rattle.rules.specs.Calls.{Result, done, refused}
 use Rattle.rules.specs.Cases.{Case, one, task, here, resource, limit, case9Frame, case9Before, case9Stepped, case9After}
 
@@ -44,6 +46,13 @@ chainFrame = plain AtLeast (resource (pos 1) (pos 0) ∷ resource (pos 2) (pos 1
 
 abbrev chain : ℕ → ℕ → List Task
 chain s u = onDay5 1 0 ∷ onDay5 2 0 ∷ onDay5 4 0 ∷ onDay5 s 1 ∷ onDay5 u 1 ∷ []
+
+-- at least 0, and from day 1 on at least 2, where the band is one of the resource at that place; a job of one day and height 1 that may wait so long
+abbrev rising : ℕ → Frame
+rising place = framed AtLeast (limit (pos 0)) (record { place = place; from = day (pos 1); limit = power (pos 2) } ∷ [])
+
+abbrev waiting : ℕ → List Task
+waiting days = task 1 (range (pos 0) (pos days)) (one (pos 1)) (range (pos 1) (pos (suc days))) (one (pos 1)) ∷ []
 
 abbrev pub passCases : List Case
 passCases =
@@ -95,6 +104,12 @@ passCases =
     (done 0 (here (pos 0) (pos 1) (pos 1) (negsuc 0) ∷ task 1 (one (pos 0)) (one (pos 1)) (one (pos 1)) (range (negsuc 3) (negsuc 1)) ∷ []))
     ∷ makes 2 (plain AtMost (limit (negsuc 2))) (here (pos 0) (pos 1) (pos 1) (negsuc 0) ∷ task 1 (one (pos 0)) (one (pos 1)) (one (pos 1)) (range (negsuc 3) (pos 0)) ∷ [])
     (done 2 (here (pos 0) (pos 1) (pos 1) (negsuc 0) ∷ task 1 (one (pos 0)) (one (pos 1)) (one (pos 1)) (range (negsuc 3) (negsuc 1)) ∷ []))
-    -- a refusal of the checks, with no pass to make too
+    -- a level that rises on day 1 bars the job from then on, which the first pass finds; bands are no part of the bound
+    ∷ atMost (rising 0) (waiting 3) 7
+    ∷ makes 1 (rising 0) (waiting 3) (done 0 (waiting 0))
+    ∷ makes 2 (rising 0) (waiting 3) (done 2 (waiting 0))
+    -- a refusal of the checks, with no pass to make too, and of bands
     ∷ makes 0 feeder (onDay5 2 1 ∷ []) (refused (SetOutside 0) (onDay5 2 1 ∷ []))
+    ∷ makes 0 (rising 1) (waiting 3) (refused (BandOutside 0) (waiting 3))
+    ∷ record { call = MostPasses; frame = rising 1; tasks = waiting 3; result = refused (BandOutside 0) (waiting 3) }
     ∷ []
