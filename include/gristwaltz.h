@@ -39,11 +39,11 @@ uint64_t gristwaltz_most_passes(const uint8_t *file, size_t file_len);
 
 /* Settles the plan with at most `most` passes. If they are enough, this is gristwaltz_settle: the settled plan in `out` and the number of
  * passes, or its refusal (7 where one of these passes finds no plan; every other refusal comes whatever `most` is). Else the answer is 0, and
- * `out` has the plan as `most` passes left it, with `most` 0 the plan itself: call again from that buffer into another. Calling again and again
- * until the answer is not 0 gives what gristwaltz_settle gives of the first file: the same bytes, and the same count once `most` is added for
- * each call before; or its refusal, and then the host holds what the call before left. With `most` of at least 1 that ends, at the latest once
- * the calls have made as many passes as gristwaltz_most_passes answers; with 0 it never does. Whatever a call left is a plan file with the same
- * allowed plans. */
+ * `out` has the plan as `most` passes left it, with `most` 0 the plan itself: call again from that buffer into another with room. Calling again
+ * and again until the answer is not 0 gives what gristwaltz_settle gives of the first file: the same bytes, and the same count once `most` is
+ * added for each call before; or its refusal, and then the host holds what the call before left. With `most` of at least 1 that ends, at the
+ * latest once the calls have made as many passes as gristwaltz_most_passes answers; with 0 it never does, unless the first call is refused.
+ * Whatever a call left is a plan file with the same allowed plans. */
 uint64_t gristwaltz_settle_within(const uint8_t *file, size_t file_len, uint64_t most, uint8_t *out, size_t out_len);
 
 /* One balance step, written to `out`: 0, or the refusal. */

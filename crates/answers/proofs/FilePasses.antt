@@ -257,7 +257,8 @@ module _ (file : List ℕ) (bytes : AllBytes file) (f : Frame) (ts : List Task) 
 
 -- ---- any lent file
 module _ (file : List ℕ) (bytes : AllBytes file) (out : List ℕ) where
-  -- "where settling ends in no plan, the failing pass comes within the same number": within fewer passes nothing is refused, with it 7
+  -- "where settling ends in no plan, the failing pass comes within the same number": within the passes before it the
+  -- answer is 0, within one more 7
   pub file-failing : refusalIn (fileCall Settle file out .answer) ≡ 7 → (k : ℕ) × (k < mostFile file) × (fileCall (Within k) file out .answer ≡ 0) × (refusalIn (fileCall (Within (suc k)) file out .answer) ≡ 7)
   file-failing d =
       let p = file-refuses file out Settle d in
@@ -280,7 +281,7 @@ module _ (file : List ℕ) (bytes : AllBytes file) (out : List ℕ) where
         let refused : refusalIn a ≡ number e = omega arith in
         (rw (h, ne-eqb a 0 (λ z. omega arith), ne-eqb (refusalIn a) 0 (λ z. omega arith)), rw h refused)
 
-    -- until it answers something else than 0: that is what settling answers, the passes of all calls added up, and the file that it leaves
+    -- until it answers something else than 0: that is what settling answers, the passes of all calls added up, and, unless it is refused, the file that it leaves
     pub file-again-settles : (parts : List Part) → Roomy (length file) parts → (settleFileAgain 0 parts file .answer ≡ 0 → ⊥) → (settleFileAgain 0 parts file .answer ≡ fileCall Settle file out .answer) × (refusalIn (settleFileAgain 0 parts file .answer) ≡ 0 → settleFileAgain 0 parts file .out ≡ fileLeft Settle file out)
     unfolding settleFileAgain
     file-again-settles parts r answered = by-read (readPlan file) refl parts r answered

@@ -32,7 +32,7 @@ pub fn refusal_number(f: Refusal) -> u64
     f.number() * PLACES + (f.place() as u64) % PLACES
 }
 
-// 0, or where it is asked for the most passes.
+// 0; or, where they are asked for, the most passes.
 fn looked_for(counted: bool, s: &[TaskRow]) -> u64
     requires { ⌜ Entered (tasksOf (now s)) ⌝ }
     ensures { λ r. ⌜ r ≡ lookedFor counted (tasksOf (now (s .entry))) ⌝ }

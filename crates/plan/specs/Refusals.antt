@@ -50,7 +50,7 @@ told n vs = record { number = n; values = vs }
 abbrev pub toldRefusal : Refusal → Told
 toldRefusal f = told (number f) (place f ∷ [])
 
--- done: the pass count of settling, or how many passes it makes at most; 0 of every other call
+-- done: the pass count of settling (0 where the passes that it may make were too few), or how many passes it makes at most; 0 of every other call
 abbrev pub toldAnswer : Answer → Told
 toldAnswer (Done n) = told 0 (n ∷ [])
 toldAnswer (Refused f) = toldRefusal f

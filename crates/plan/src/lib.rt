@@ -438,7 +438,8 @@ pub enum Call {
     MostPasses,
 }
 
-// What a call answers: done, after so many passes of settling or with so many at most (0 for every other call), or one refusal.
+// What a call answers: done, with the passes that settling made or those that it makes at most (0 for every other call, and where the passes that
+// settling may make were too few); or one refusal.
 pub enum Answer {
     Done(u64),
     Refused(Refusal),

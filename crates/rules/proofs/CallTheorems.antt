@@ -52,7 +52,7 @@ module _ (c : Call) (f : Frame) (ts : List Task) where
   unfolding listCall
   refused-stays h = call-stays c f ts h
 
--- ---- lists that pass the entry checks: each call is the step, pass or settling of the page
+-- ---- lists that pass the entry checks: check, balance, step, pass and settle are those of the page
 module _ (f : Frame) (ts : List Task) (ok : check f ts ≡ Accepted) where
   pub check-done : listCall Check f ts ≡ listResult (told 0 (0 ∷ [])) ts
   unfolding listCall callOf

@@ -91,7 +91,7 @@ module _ (f : Frame) (n : ℕ) (ts : List Task) where
 
 -- ---- settling is a pass, and settling what it left
 module _ (f : Frame) where
-  -- any two bounds above the room give the same
+  -- any two numbers of passes above the room give the same
   same-bound : (n m : ℕ) (ts : List Task) → check f ts ≡ Accepted → rooms ts < n → rooms ts < m → settleWithin n f ts ≡ settleWithin m f ts
   unfolding settleWithin
   same-bound zero m ts a h l = absurd (omega arith)

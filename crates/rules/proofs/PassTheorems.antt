@@ -101,7 +101,7 @@ module _ (f : Frame) (ts : List Task) where
       let kept = sequence-keeps f ts ok _ (r .2) (sym (passes-are-sequence f ts (r .0)) ∙ r .3) in
       (r .0, r .1, r .2, r .3, pass-none f (r .2) (kept .accepted) (r .4))
 
-  -- so settling within fewer passes is not refused, and within one more it is
+  -- so settling within the passes before it is not refused, and within one more it is
   pub failing-within : listCall Settle f ts .answer .number ≡ 7 → (k : ℕ) × (k < mostPasses ts) × (listCall (Within k) f ts .answer ≡ noCount) × (listCall (Within (suc k)) f ts .answer ≡ told 7 (0 ∷ []))
   unfolding listCall callOf
   failing-within e =
@@ -164,7 +164,7 @@ module _ (f : Frame) (ts : List Task) (most : ℕ) where
   unfolding listCall callOf
   within-fails ok e = rw (ok, within-none f most ts ok e)
 
-  -- else, if settling counts no such number, the plan after so many passes, with a count of 0
+  -- else, if settling counts more, or none, the plan after so many passes, with a count of 0
   pub within-leaves : check f ts ≡ Accepted → (us : List Task) → passes most f ts ≡ Plan us → ((k : ℕ) (vs : List Task) → listCall Settle f ts ≡ listResult (told 0 (k ∷ [])) vs → most < k) → listCall (Within most) f ts ≡ listResult noCount us
   within-leaves ok us e m = leaves (within-left f most ts ok us e (λ k vs s. m k vs (settle-done f ts ok k vs s)))
     where
@@ -250,7 +250,7 @@ module _ (f : Frame) (ts : List Task) where
             omega arith
         go (Unsettled us) d e h = settle-settles f ts ok us (sym d ∙ e)
 
-  -- until one reports a count or is refused: that is what settling reports, the passes of all calls added up, and what it leaves
+  -- until one reports a count or is refused: that is what settling reports, the passes of all calls added up, and, unless it is refused, what it leaves
   pub again-settles : (mosts : List ℕ) → (again mosts .answer ≡ noCount → ⊥) → (again mosts .answer ≡ listCall Settle f ts .answer) × (again mosts .answer .number ≡ 0 → again mosts .tasks ≡ listCall Settle f ts .tasks)
   unfolding settleAgain
   again-settles mosts reported = by-check (check f ts) refl mosts reported

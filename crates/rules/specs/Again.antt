@@ -1,4 +1,5 @@
--- "The host cuts off long calls": settling in several calls, each of so many passes at most, on what the one before left, until one reports a count.
+-- "The host cuts off long calls": settling in several calls, each of so many passes at most, on what the one before left, until one reports a
+-- count or is refused.
 use Prim.Native.Nat.{ℕ, _+_}
 use mathlib.Core.List.{List, [], _∷_}
 use mathlib.Core.Bool.{Bool}

@@ -74,11 +74,11 @@ passCases =
     ∷ task 2 (one (pos 0)) (one (pos 1)) (one (pos 1)) (range (negsuc 1) (pos 1)) ∷ []) 25
     -- case 9: 1 + 0 + 1 + 1 + 0, and 6 + 0 + 6 + 4 + 1
     ∷ atMost case9Frame case9Before 21
-    -- the bound takes no step: a plan that holds none has one too, and a refusal of the checks comes first
+    -- the bound takes no step: a plan without any allowed plan has a bound too; and a refusal of the checks comes first
     ∷ atMost feeder (here (pos 5) (pos 1) (pos 6) (negsuc 0) ∷ []) 1
     ∷ record { call = MostPasses; frame = feeder; tasks = task 1 (range (pos 2) (pos 1)) (one (pos 0)) (one (pos 2)) (one (pos 0)) ∷ []; result = refused (RangeOutside 0) (task 1 (range (pos 2) (pos 1)) (one (pos 0)) (one (pos 2)) (one (pos 0)) ∷ []) }
     ∷ record { call = MostPasses; frame = feeder; tasks = onDay5 2 1 ∷ []; result = refused (SetOutside 0) (onDay5 2 1 ∷ []) }
-    -- case 9 takes three passes: with none it stays, after one and two it is not settled, and more than three are not made
+    -- case 9 takes three passes: with none it stays, after one and two none has yet changed nothing, and more than three are not made
     ∷ makes 0 case9Frame case9Before (done 0 case9Before)
     ∷ makes 1 case9Frame case9Before (done 0 case9Stepped)
     ∷ makes 2 case9Frame case9Before (done 0 case9After)
