@@ -4,7 +4,11 @@
 //   measure ours SEED SIZE NUMBERS       each plan of the list (as 640,641) once, inside the function `measured_ours` (for counting
 //                                        instructions); prints all passes together, and how many plans had no plan
 //   measure ours SEED SIZE NUMBERS BANDS [level]     the same of stepped plans with so many bands; level: bands that change nothing
-//   measure gecode SEED SIZE NUMBERS     the same, inside `measured_gecode`
+//   measure ours SEED SIZE NUMBERS resources COUNT [any]     the same of service plans with so many crews or feeders, 1 to 16; any (crew
+//                                        plans only): each service may be done by any crew
+//   measure times SEED SIZE NUMBERS ...  prints the nanoseconds of settling each of these plans once, the best turn of each, all together;
+//                                        after NUMBERS the same words as for `ours`
+//   measure gecode SEED SIZE NUMBERS     each plan of the list once, inside `measured_gecode`
 //   measure bands                        says whether the engine takes plans with bands
 #include "../include/gristwaltz.h"
 #ifdef WITH_GECODE
@@ -27,6 +31,7 @@ using Clock = std::chrono::steady_clock;
 
 constexpr int sizes[] = {10, 50, 100, 256};
 constexpr int most_turns = 25, least_turns = 3;
+constexpr int times_turns = 200;  // of `times`, which measures a few plans only
 constexpr double shortest_timing = 10000;  // ns: shorter calls are repeated inside one timing
 constexpr std::size_t most_tasks = 256;
 
@@ -107,6 +112,10 @@ void demand(bool holds, const char *what, const Plan &plan) {
   std::exit(1);
 }
 
+void demand_accepted(std::uint64_t answer, const Plan &plan) {
+  demand(gristwaltz_refusal(answer) == 0 || gristwaltz_refusal(answer) == 7, "the plan does not pass the entry checks", plan);
+}
+
 bool same_tasks(const Task &a, const Task &b) {
   auto same = [](Range x, Range y) { return x.low == y.low && x.high == y.high; };
   return a.set == b.set && same(a.origin, b.origin) && same(a.duration, b.duration) && same(a.end, b.end) && same(a.height, b.height);
@@ -142,7 +151,7 @@ Line measured(const Plan &plan, double budget) {
   std::vector<Task> narrowed = plan.tasks;
   auto start = Clock::now();
   line.answer = ours.settle();
-  demand(gristwaltz_refusal(line.answer) == 0 || gristwaltz_refusal(line.answer) == 7, "the plan does not pass the entry checks", plan);
+  demand_accepted(line.answer, plan);
   if (gristwaltz_refusal(line.answer) == 0) line.ours_removed = values(plan.tasks) - values(tasks_of(ours.out));
   gecode_result(given, line);
   Timed settling([&ours] { ours.settle(); });
@@ -210,10 +219,24 @@ void count_ours(const std::vector<Plan> &plans) {
     Ours ours(plan);
     ours.settle();
     std::uint64_t answer = measured_ours(ours.file, ours.out);
-    demand(gristwaltz_refusal(answer) == 0 || gristwaltz_refusal(answer) == 7, "the plan does not pass the entry checks", plan);
+    demand_accepted(answer, plan);
     passes += gristwaltz_passes(answer), no_plan += gristwaltz_refusal(answer) == 7;
   }
   std::printf("%u %u\n", passes, no_plan);
+}
+
+// Each plan's best turn by itself: a disturbance spoils one timing and not the sum.
+void time_ours(const std::vector<Plan> &plans) {
+  double all = 0;
+  for (const Plan &plan : plans) {
+    Ours ours(plan);
+    demand_accepted(ours.settle(), plan);
+    Timed settling([&ours] { ours.settle(); });
+    double shortest = -1;
+    for (int k = 0; k < times_turns; k++) best(shortest, settling.time());
+    all += shortest;
+  }
+  std::printf("%.0f\n", all);
 }
 
 void count_gecode(const std::vector<Plan> &plans) {
@@ -224,16 +247,34 @@ void count_gecode(const std::vector<Plan> &plans) {
   }
 }
 
-// words: SEED SIZE NUMBERS [BANDS [level]]
-std::vector<Plan> plans_named(const std::vector<std::string> &words) {
+// The words that name plans: SEED SIZE NUMBERS, then nothing, BANDS [level], or resources COUNT [any].
+bool with_resources(const std::vector<std::string> &words) { return words.size() > 3 && words[3] == "resources"; }
+
+bool name_plans(const std::vector<std::string> &words) {
+  if (!with_resources(words)) return words.size() >= 3 && words.size() <= 5;
+  if (words.size() < 5 || words.size() > 6 || (words.size() == 6 && words[5] != "any")) return false;
+  int resources = std::stoi(words[4]);
+  return resources >= 1 && resources <= most_resources;
+}
+
+Plan plan_named(const std::vector<std::string> &words, int number) {
   std::uint64_t seed = std::stoull(words[0]);
   int size = std::stoi(words[1]);
+  if (words.size() == 3) return plan_of(size, seed, number);
+  if (with_resources(words)) {
+    Sets sets = words.size() > 5 ? Sets::any : Sets::drawn;
+    Plan plan = plan_with_resources(size, seed, number, std::stoi(words[4]), sets);
+    demand(sets == Sets::drawn || !plan.at_least, "any is for crew plans only", plan);
+    return plan;
+  }
+  Plan plan = stepped_plan_of(size, seed, number, std::stoi(words[3]));
+  return words.size() > 4 ? with_level_bands(plan) : plan;
+}
+
+std::vector<Plan> plans_named(const std::vector<std::string> &words) {
   std::vector<Plan> plans;
   std::istringstream numbers(words[2]);
-  for (std::string number; std::getline(numbers, number, ',');) {
-    Plan plan = words.size() > 3 ? stepped_plan_of(size, seed, std::stoi(number), std::stoi(words[3])) : plan_of(size, seed, std::stoi(number));
-    plans.push_back(words.size() > 4 ? with_level_bands(plan) : plan);
-  }
+  for (std::string number; std::getline(numbers, number, ',');) plans.push_back(plan_named(words, std::stoi(number)));
   return plans;
 }
 
@@ -243,11 +284,13 @@ int main(int count, char **given) {
   std::vector<std::string> words(given + std::min(count, 2), given + count);
   std::string what = count > 1 ? given[1] : "";
   if (what == "all" && words.size() == 2) measure_all(std::stoull(words[0]), std::stod(words[1]));
-  else if (what == "ours" && words.size() >= 3 && words.size() <= 5) count_ours(plans_named(words));
+  else if (what == "ours" && name_plans(words)) count_ours(plans_named(words));
+  else if (what == "times" && name_plans(words)) time_ours(plans_named(words));
   else if (what == "gecode" && words.size() == 3) count_gecode(plans_named(words));
   else if (what == "bands" && words.empty()) std::puts(takes_bands() ? "yes" : "no");
   else {
-    std::fprintf(stderr, "usage: measure all SEED SECONDS | measure ours|gecode SEED SIZE NUMBERS [BANDS [level]] | measure bands\n");
+    std::fprintf(stderr, "usage: measure all SEED SECONDS | measure ours|times SEED SIZE NUMBERS [BANDS [level] | resources COUNT [any]] | "
+                         "measure gecode SEED SIZE NUMBERS | measure bands\n");
     return 2;
   }
   return 0;

@@ -6,11 +6,11 @@
 namespace bench {
 namespace {
 
-constexpr int most_resources = 16;
 constexpr int service_plans = 150;  // of either sense
 constexpr int season_plans = 100;
 constexpr int stepped_plans = 50;  // of either sense
 constexpr int year = 365;
+constexpr int drawn = 0;  // for a number of resources: the plan draws its own
 
 // The splitmix64 recipe.
 class Random {
@@ -211,9 +211,9 @@ constexpr int patterns = 3 * 4 * 3 * 4 * 2;
 
 // ---- service plans of turbine groups, a year of days
 
-// At most: crews of people. Leave and training are fixed; a service has a window, some days, some people and one to three crews.
-Plan crew_plan(Random &random, int size) {
-  int crews = random.within(2, 8);
+// At most: crews of people. Leave and training are fixed; a service has a window, some days, some people and one to three crews, or any.
+Plan crew_plan(Random &random, int size, int resources = drawn, Sets sets = Sets::drawn) {
+  int crews = resources != drawn ? resources : random.within(2, 8);
   std::vector<Task> tasks;
   for (int k = 0; k < size; k++) {
     unsigned crew = 1u << random.within(0, crews - 1);
@@ -223,25 +223,28 @@ Plan crew_plan(Random &random, int size) {
       continue;
     }
     for (int more = random.within(0, 2); more > 0; more--) crew |= 1u << random.within(0, crews - 1);
+    if (sets == Sets::any) crew = (1u << crews) - 1;
     int days = random.within(2, 14), window = random.within(0, 30), count = random.within(1, 3);
     int spare_days = random.one_in(3) ? random.within(1, 4) : 0, spare_people = random.one_in(3) ? 1 : 0;
     int first = random.within(0, year - window - days - spare_days);
     tasks.push_back(task(crew, wider(first, window), wider(days, spare_days), wider(count, spare_people)));
   }
-  Plan plan{false, std::vector<int>(crews, 0), tasks, "crews"};
+  Plan plan{false, std::vector<int>(crews, 0), tasks, sets == Sets::any ? "any" : "crews"};
   set_limits(random, plan);
   return plan;
 }
 
 // At least: feeders with a level to be kept. One turbine group of each feeder runs all year, others for some months; a turbine out of
 // service takes its power away within a window; a mobile unit brings power to one feeder or another.
-Plan feeder_plan(Random &random, int size) {
-  int feeders = std::clamp(size / random.within(8, 16), 1, 8);
+Plan feeder_plan(Random &random, int size, int resources = drawn) {
+  int feeders = resources != drawn ? resources : std::clamp(size / random.within(8, 16), 1, 8);
+  // at most half of the tasks: where feeders outnumber them, something is left to be placed
+  int all_year = std::min(feeders, (size + 1) / 2);
   std::vector<Task> tasks;
   for (int k = 0; k < size; k++) {
-    unsigned feeder = 1u << (k < feeders ? k : random.within(0, feeders - 1));
+    unsigned feeder = 1u << (k < all_year ? k : random.within(0, feeders - 1));
     int kind = random.within(1, 10);
-    if (k < feeders) {
+    if (k < all_year) {
       int power = random.within(40, 90);
       tasks.push_back(task(feeder, {0, 0}, {year, year}, {power - random.within(0, 10), power}));
     } else if (kind <= 3) {
@@ -331,6 +334,11 @@ Plan plan_of(int tasks, std::uint64_t seed, int number) {
   if (number >= plain_count()) return season_plan(random, tasks);
   if (number < 2 * patterns) return table_plan(random, tasks, pattern(number / 2), number % 2 == 1);
   return number % 2 == 0 ? crew_plan(random, tasks) : feeder_plan(random, tasks);
+}
+
+Plan plan_with_resources(int tasks, std::uint64_t seed, int number, int resources, Sets sets) {
+  Random random(seed, tasks, number);
+  return number % 2 == 0 ? crew_plan(random, tasks, resources, sets) : feeder_plan(random, tasks, resources);
 }
 
 Plan stepped_plan_of(int tasks, std::uint64_t seed, int number, int bands) {

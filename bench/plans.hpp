@@ -28,7 +28,7 @@ struct Plan {
   bool at_least;
   std::vector<int> limits;
   std::vector<Task> tasks;
-  std::string kind;  // table, crews, feeders, season or stepped
+  std::string kind;  // table, crews, feeders, season or stepped; any: crews, each service by any of them
   std::vector<Band> bands = {};
   int stand_ins = 0;  // the last so many tasks are fixed ones that stand in for bands: see stand_ins.hpp
 };
@@ -39,6 +39,13 @@ struct Plan {
 int plain_count();
 int plan_count();
 Plan plan_of(int tasks, std::uint64_t seed, int number);
+
+// A service plan with exactly so many crews or feeders, 1 .. most_resources, instead of the drawn number; one may be left without a task. An
+// even plan number is a crew plan, an odd one a feeder plan. Sets::any, for crew plans only: the same tasks, but each service may be done by
+// any crew, so that limits that bite are others.
+constexpr int most_resources = 16;
+enum class Sets { drawn, any };
+Plan plan_with_resources(int tasks, std::uint64_t seed, int number, int resources, Sets sets);
 
 // A stepped plan with so many bands instead of 64: the same tasks and the same limits of resources.
 constexpr int most_bands = 64;

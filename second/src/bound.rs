@@ -22,6 +22,6 @@ fn removable(task: &Task, fault: Option<Fault>) -> u64 {
     if fault == Some(Fault::RangeLeftOut) {
         duration = 0;
     }
-    let resources = task.set.places().count() as u64;
+    let resources = task.set.count(fault);
     origin + duration + end + height + resources - 1
 }

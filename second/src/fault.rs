@@ -1,4 +1,5 @@
-//! The "Errors that look right" of document 01, errors of the bands, one of the pass, and errors of request 6, each to be planted alone.
+//! The "Errors that look right" of document 01, errors of the bands, one of the pass, errors of request 6, and errors that request 3's counts
+//! of ones and trailing zeros invite, each to be planted alone.
 
 /// A planted error. The rules without one take `None`.
 #[derive(Clone, Copy, Debug, PartialEq, Eq)]
@@ -34,6 +35,14 @@ pub enum Fault {
     RangeLeftOut,
     /// Settling within a number of passes makes one more than asked.
     PassTooMany,
+    /// Trailing zeros looked at, ones not counted: r is taken for a task's only resource where it is the lowest of several.
+    LowestOnly,
+    /// The zeros of a 64-bit set counted for its ones: a task's number of resources is 64 minus the right one. So a task with one resource
+    /// is not seen as placed, and the bound of request 6 is too large.
+    ZerosCounted,
+    /// A pass that has taken a resource's step goes on at the second place behind it: the resource at the next place is left out. Settling's
+    /// passes have it too.
+    NeighbourSkipped,
 }
 
 /// Every fault with the name the command line knows it by.
@@ -50,6 +59,9 @@ pub const FAULTS: &[(&str, Fault)] = &[
     ("bound-without-one", Fault::BoundWithoutOne),
     ("range-left-out", Fault::RangeLeftOut),
     ("pass-too-many", Fault::PassTooMany),
+    ("lowest-only", Fault::LowestOnly),
+    ("zeros-counted", Fault::ZerosCounted),
+    ("neighbour-skipped", Fault::NeighbourSkipped),
 ];
 
 pub fn names() -> Vec<&'static str> {

@@ -3,6 +3,7 @@
 //! "A day number is never added to a power"; both are plain numbers here, and
 //! the kinds that keep them apart are the engine's.
 
+use crate::fault::Fault;
 use std::ops::RangeInclusive;
 
 /// "1 to 16 resources".
@@ -162,6 +163,15 @@ impl Set {
     /// The places in it, in rising order.
     pub fn places(self) -> impl Iterator<Item = usize> {
         (0..u64::BITS as usize).filter(move |place| self.has(*place))
+    }
+
+    /// How many places are in it.
+    pub fn count(self, fault: Option<Fault>) -> u64 {
+        let ones = self.places().count() as u64;
+        match fault {
+            Some(Fault::ZerosCounted) => u64::from(u64::BITS) - ones,
+            _ => ones,
+        }
     }
 
     /// What is in both sets.

@@ -112,7 +112,11 @@ impl Step<'_> {
 
     /// "r is its only resource".
     fn is_only(&self, task: &Task) -> bool {
-        task.set == Set::only(self.place)
+        match self.fault {
+            Some(Fault::LowestOnly) => task.set.places().next() == Some(self.place),
+            Some(Fault::ZerosCounted) => self.is_among(task) && task.set.count(self.fault) == 1,
+            _ => task.set == Set::only(self.place),
+        }
     }
 
     /// "r is among its resources".

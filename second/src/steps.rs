@@ -75,7 +75,11 @@ fn passed(
 ) -> Result<Vec<Task>, Refusal> {
     let mut passed = plan.clone();
     passed.tasks = balanced(&passed.tasks)?;
-    for place in places {
+    let next = match fault {
+        Some(Fault::NeighbourSkipped) => 2,
+        _ => 1,
+    };
+    for place in places.step_by(next) {
         passed.tasks = stepped(&passed, place, fault)?;
     }
     Ok(passed.tasks)

@@ -365,3 +365,14 @@ fn pass_too_many() {
         assert_ne!((result, &after), (Ok(None), &plan));
     }
 }
+
+/// Zeros counted for ones give each task too much: of case 9's, 64 - 1 - 1 = 62 in place of 0 and 64 - 2 - 1 = 61 in place of 1.
+#[test]
+fn zeros_counted() {
+    let wrong = |plan: &Plan| most_passes(plan, Some(Fault::ZerosCounted)).unwrap();
+    assert_eq!(wrong(&case_9()), 21 + 62 + 60);
+    assert_eq!(wrong(&at_least(3, &[])), 1);
+    for plan in made_plans().filter(|plan| !plan.tasks.is_empty()) {
+        assert!(wrong(&plan) > bound(&plan), "{plan:?}");
+    }
+}

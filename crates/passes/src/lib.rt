@@ -52,7 +52,7 @@ pub fn resource_step(
     }
 }
 
-// Each resource's step in list order, on what balance left, if its bit says that it may change something.
+// The steps in list order, on what balance left, of the resources whose bits say that they may change something: from one such bit to the next.
 fn steps_rows(
     q: &[ResourceRow],
     b: &[BandRow],
@@ -67,15 +67,13 @@ fn steps_rows(
     ensures { λ o. ⌜ TookRows (λ f. steps f (places f)) (now (q .entry)) (now (b .entry)) (first .changed) (now (s .entry)) o (now (s .exit)) ⌝ }
 {
     let mut p = first;
-    let mut r: usize = 0;
+    let mut r = plan::lowest_resource(p.mask) as usize;
     while r < q.len() {
-        if plan::has_resource(p.mask, r as u64) {
-            p = resource_step(q, b, s, r, p, keys, spare, ss);
-            if !p.ok {
-                return p;
-            }
+        p = resource_step(q, b, s, r, p, keys, spare, ss);
+        if !p.ok {
+            return p;
         }
-        r += 1;
+        r = plan::next_resource(p.mask, r as u64) as usize;
     }
     p
 }

@@ -2,11 +2,10 @@
 use mathlib.Core.Path.{_≡_, refl, sym, ap, _∙_, subst}
 use mathlib.Core.Bool.{true, false}
 use mathlib.Core.Logic.{_≢_}
-use Prim.Native.Nat.{ℕ, zero, suc, _+_, _-_, _*_, _/_, _%_, _^_, _≤_, _<_, max}
+use Prim.Native.Nat.{ℕ, zero, suc, _-_, _*_, _/_, _%_, _^_, _≤_, _<_, max}
 use native.Mathlib.Nat.{pow-succ', two-pow-succ, div-one, div-div-eq-div-mul, pow-le-pow-right}
 use native.Mathlib.Omega.{arith}
 use lib.Bits.{bitAnd, bitOr, bitXor, and-step, differ, or-step, or-comm, xor-step}
-use lib.Count.{ones, ones-step, ones-ones}
 use lib.Dec.{T, eqb, eqb→eq, eqb-refl}
 use Rattle.integers.specs.Tests.{if, or}
 use Rattle.integers.proofs.Tests.{clash, by-cases, true-of, false-in, if-case, or-first, or-assoc}
@@ -124,7 +123,7 @@ unfolding has
 has-bit s zero = rw (div-one s)
 has-bit s (suc k) = has-bit (s / 2) k ∙ ap (λ (x : ℕ). eqb (x % 2) 1) (div-div-eq-div-mul s 2 (2 ^ k) ∙ ap (λ (x : ℕ). s / x) (sym (pow-succ' 2 k)))
 
-off : (x : ℕ) → x < 2 → eqb x 1 ≡ false → x ≡ 0
+pub off : (x : ℕ) → x < 2 → eqb x 1 ≡ false → x ≡ 0
 off zero h e = refl
 off (suc zero) h e = clash true refl e
 off (suc (suc x)) h e = absurd (omega arith)
@@ -176,12 +175,6 @@ pub size-le : (m s' s : ℕ) → SubSet s' s → size m s' ≤ size m s
 unfolding size
 size-le zero s' s h = omega arith
 size-le (suc m) s' s h = let a = bit-le s' s h in let b = size-le m (s' / 2) (s / 2) (half-sub s' s h) in omega arith
-
--- the language's own count of ones, for a set of any width
-pub ones-size : (m s : ℕ) → s < 2 ^ m → ones s ≡ size m s
-unfolding size
-ones-size zero s l = let e : s ≡ 0 = omega arith in rw e (ones-ones 0)
-ones-size (suc m) s l = ones-step s ∙ ap (λ (n : ℕ). s % 2 + n) (ones-size m (s / 2) (omega (arith, two-pow-succ m)))
 
 -- a part with as many places is the whole
 pub size-same : (m s' s : ℕ) → SubSet s' s → s < 2 ^ m → size m s ≤ size m s' → s' ≡ s

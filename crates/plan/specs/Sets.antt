@@ -36,6 +36,15 @@ unfoldable pub size : ℕ → ℕ → ℕ
 size zero s = 0
 size (suc m) s = s % 2 + size m (s / 2)
 
+-- the lowest of the first m places that the set has; m where it has none of them (the laws `lowest-in`, `below-lowest`)
+unfoldable pub lowest : ℕ → ℕ → ℕ
+lowest zero s = 0
+lowest (suc m) s = if (has s 0) 0 (suc (lowest m (s / 2)))
+
+-- the next place behind k that the set has: the lowest of the m behind it; k + 1 + m where it has none of them (the laws `next-in`, `before-next`)
+unfoldable pub next : ℕ → ℕ → ℕ → ℕ
+next m s k = suc k + lowest m (s / 2 ^ suc k)
+
 -- the places of either set (the law `union-has`)
 unfoldable pub union : ℕ → ℕ → ℕ
 union a b = bitOr a b

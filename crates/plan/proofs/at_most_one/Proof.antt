@@ -1,7 +1,11 @@
--- No bit, or nothing left without the lowest.
-use mathlib.Core.Path.{refl}
-use Rattle.plan.specs.Sets.{atMostOne}
+-- None, or fewer than two.
+use native.Mathlib.Omega.{arith}
+use mathlib.Core.Path.{ap, _∙_}
+use Prim.Native.Nat.{ℕ}
+use lib.Dec.{ltb}
 use borrow.Author.Needs.{needs}
+use Rattle.plan.specs.Sets.{atMostOne}
+use Rattle.plan.proofs.Counting.{size-at-most-one}
 use Rattle.plan.proofs.at_most_one.Statement.{statement}
 use Rattle.plan.proofs.at_most_one.Tie as tie
 
@@ -9,12 +13,11 @@ returns : tie.Need-returns
 unfolding atMostOne
 returns c = rw (c .if1 .taken)
 
-sub-result : tie.Need-sub-result
-sub-result c = search needs
+set-size-requires : tie.Need-set-size-requires
+set-size-requires c κs = search needs
 
 returns-2 : tie.Need-returns-2
-unfolding atMostOne
-returns-2 c = refl
+returns-2 c = ap (λ (n : ℕ). ltb n 2) (c .set-size .ensures) ∙ size-at-most-one 64 (c .before .before .args .set) (omega arith)
 
 pub at-most-one-spec : {M : Type 1} → statement M
-at-most-one-spec = tie.close (tie.spec returns sub-result returns-2)
+at-most-one-spec = tie.close (tie.spec returns set-size-requires returns-2)

@@ -1,7 +1,7 @@
 -- The language's own count of ones.
 use native.Mathlib.Omega.{arith}
 use lib.Count.{ones-le}
-use Rattle.plan.proofs.Sets.{ones-size}
+use Rattle.plan.proofs.Counting.{ones-size}
 use Rattle.plan.proofs.set_size.Statement.{statement}
 use Rattle.plan.proofs.set_size.Tie as tie
 
