@@ -470,15 +470,15 @@ pub fn set_size(set: u64) -> u64
     u64::count_ones(set) as u64
 }
 
-// Whether one resource is left, or none. The count alone would do; but with the empty set told first the compiler keeps more in registers during
-// a step, and settling takes up to 1.2 % fewer instructions.
+// Whether one resource is left, or none. The count alone would do, or set_size: but this form alone is compiled as well as no count at all, and a
+// step, which has it inside its loops, is the dearest code of all (measured: docs/DECISIONS.md, 64).
 pub fn at_most_one(set: u64) -> bool
     ensures { λ r. ⌜ r ≡ atMostOne set ⌝ }
 {
     if set == 0 {
         return true;
     }
-    set_size(set) < 2
+    u64::count_ones(set) < 2
 }
 
 // The first resource of a set, in list order: which one it is, where one is left. SET_BITS where none is.
