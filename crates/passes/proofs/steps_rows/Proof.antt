@@ -1,10 +1,10 @@
 -- Each resource's step in list order. The invariant: a plan is left, what is left to do on the list as it is now gives the answer, the list is
 -- one that the steps may leave, the mask is right, and what changed is noted. A step whose bit is clear would change nothing.
 use native.Mathlib.Omega.{arith}
-use mathlib.Core.Path.{_≡_, refl, _∙_}
+use mathlib.Core.Path.{_≡_, refl, sym, _∙_, subst}
 use mathlib.Core.Bool.{true}
 use mathlib.Core.List.{List}
-use Prim.Native.Nat.{_+_, _-_, _<_}
+use Prim.Native.Nat.{ℕ, _+_, _-_, _<_}
 use lib.ListN.{length}
 use borrow.Author.Tests.{not-false}
 use Rattle.integers.proofs.Tests.{not-out}
@@ -105,7 +105,8 @@ next-resource-requires c κs = place-small (ready (turn c)) (l (turn c) .loop .r
 loop-less : tie.Need-loop-less Inv-loop μ-loop
 loop-less c =
     let i = turn (c .before) in
-    omega (arith, here i, c .next-resource .ensures, next-above 64 (c .before .before .before .before .before .before .before .before .before .resource-step .result .mask) (l i .loop .r))
+    let up : l i .loop .r < c .next-resource .result = subst (λ (n : ℕ). l i .loop .r < n) (sym (c .next-resource .ensures)) (next-above 64 _ (l i .loop .r)) in
+    omega (arith, here i)
 
 loop-again : tie.Need-loop-again Inv-loop μ-loop
 loop-again c =
