@@ -42,7 +42,7 @@ Plan plan_of(int tasks, std::uint64_t seed, int number);
 
 // A service plan with exactly so many crews or feeders, 1 .. most_resources, instead of the drawn number; one may be left without a task. An
 // even plan number is a crew plan, an odd one a feeder plan. Sets::any, for crew plans only: the same tasks, but each service may be done by
-// any crew, so that limits that bite are others.
+// any crew; so a schedule keeps other levels, and the limits are others.
 constexpr int most_resources = 16;
 enum class Sets { drawn, any };
 Plan plan_with_resources(int tasks, std::uint64_t seed, int number, int resources, Sets sets);

@@ -40,7 +40,7 @@ pub enum Fault {
     /// The zeros of a 64-bit set counted for its ones: a task's number of resources is 64 minus the right one. So a task with one resource
     /// is not seen as placed, and the bound of request 6 is too large.
     ZerosCounted,
-    /// A pass that has taken a resource's step goes on at the second place behind it: the resource at the next place is left out. Settling's
+    /// A pass that has taken a resource's step goes on at the second place after it: the resource at the next place is left out. Settling's
     /// passes have it too.
     NeighbourSkipped,
 }

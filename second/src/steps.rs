@@ -75,11 +75,11 @@ fn passed(
 ) -> Result<Vec<Task>, Refusal> {
     let mut passed = plan.clone();
     passed.tasks = balanced(&passed.tasks)?;
-    let next = match fault {
+    let stride = match fault {
         Some(Fault::NeighbourSkipped) => 2,
         _ => 1,
     };
-    for place in places.step_by(next) {
+    for place in places.step_by(stride) {
         passed.tasks = stepped(&passed, place, fault)?;
     }
     Ok(passed.tasks)

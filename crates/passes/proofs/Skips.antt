@@ -1,8 +1,8 @@
--- A pass goes over the places that its mask does not have: the steps there would change nothing.
+-- A pass leaves out the places that its mask does not have: the steps there would change nothing.
 use mathlib.Core.Path.{_≡_, sym, subst}
 use mathlib.Core.Bool.{Bool, true, false, not}
 use mathlib.Core.List.{List}
-use Prim.Native.Nat.{ℕ, zero, suc, _+_, _-_, _/_, _^_, _≤_, _<_}
+use Prim.Native.Nat.{ℕ, zero, suc, _+_, _-_, _≤_, _<_}
 use native.Mathlib.Numerals.{add-one}
 use native.Mathlib.Omega.{arith}
 use lib.Dec.{T, ltb, ltb→lt, nltb→le}
@@ -10,7 +10,7 @@ use Rattle.integers.proofs.Tests.{by-cases}
 use Rattle.plan.specs.declared.Task.{Task}
 use Rattle.plan.specs.declared.Checked.the-variants.{Accepted}
 use Rattle.plan.specs.Sets.{has, lowest, next}
-use Rattle.plan.proofs.Counting.{below-lowest, before-next}
+use Rattle.plan.proofs.Counting.{below-lowest, next-above, before-next}
 use Rattle.rules.specs.Frame.{Frame, resourceCount, placesFrom}
 use Rattle.rules.specs.Settle.{steps}
 use Rattle.rules.specs.Calls.{check}
@@ -22,7 +22,7 @@ module _ (f : Frame) (ts : List Task) (a : check f ts ≡ Accepted) (before : Bo
   abbrev At : ℕ → Type 0
   At r = Passing f ts before r p us
 
-  -- behind the last resource no step is left
+  -- after the last resource no step is left
   beyond : (r : ℕ) → resourceCount f ≤ r → At r → At (suc r)
   unfolding steps placesFrom
   beyond r l g =
@@ -48,8 +48,9 @@ module _ (f : Frame) (ts : List Task) (a : check f ts ≡ Accepted) (before : Bo
   pub to-lowest : (m : ℕ) → At 0 → At (lowest m (p .mask))
   to-lowest m g = subst At (omega arith) (over (lowest m (p .mask)) 0 (λ j l h. below-lowest m (p .mask) j (omega arith)) g)
 
-  -- and from behind place r to the next
-  pub to-next : (m r : ℕ) → At (r + 1) → At (next m (p .mask) r)
-  unfolding next
-  to-next m r g =
-      over (lowest m (p .mask / 2 ^ suc r)) (suc r) (λ j l h. before-next m (p .mask) r j (omega arith) (omega arith)) (rw (add-one r) at g)
+  -- and from after place r to the next
+  pub to-next : (m r : ℕ) → r < m → At (r + 1) → At (next m (p .mask) r)
+  to-next m r l g =
+      let h = next-above m (p .mask) r l in
+      let e : r + 1 + (next m (p .mask) r - (r + 1)) ≡ next m (p .mask) r = omega arith in
+      subst At e (over (next m (p .mask) r - (r + 1)) (r + 1) (λ j h k. before-next m (p .mask) r j (omega arith) (omega arith)) g)

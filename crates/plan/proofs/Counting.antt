@@ -2,15 +2,15 @@
 use mathlib.Core.Path.{_≡_, refl, sym, ap, _∙_, subst}
 use mathlib.Core.Bool.{true, false, not}
 use Prim.Native.Nat.{ℕ, zero, suc, _+_, _-_, _*_, _/_, _%_, _^_, _≤_, _<_}
-use native.Mathlib.Nat.{two-pow-succ, div-div-eq-div-mul}
+use native.Mathlib.Nat.{two-pow-succ, pow-suc, pow-succ', mul-assoc, mul-le-mul-left, mul-div-cancel, div-mul-le-self, div-div-eq-div-mul, mod-eq-of-lt}
 use native.Mathlib.Omega.{arith}
-use lib.Bits.{bitAnd, and-step, and-self}
-use lib.Count.{ones, ones-step, ones-ones, trailingZeros, under, trailing-le}
+use lib.Bits.{bitAnd, and-step, and-self, shifted-half, shifted-even}
+use lib.Count.{ones, ones-step, ones-ones, trailingZeros, under}
 use lib.Dec.{T, eqb, ltb, ltb→lt, lt→ltb, nltb→le}
-use lib.Pow.{pow-add}
+use lib.Pow.{pow-add, pow-pos}
 use Rattle.integers.specs.Tests.{if, and}
 use Rattle.integers.proofs.Tests.{clash, by-cases, if-case, same-test, true-of, and-first, and-second, and-in}
-use Rattle.plan.specs.Sets.{has, only, atMostOne, size, lowest, next}
+use Rattle.plan.specs.Sets.{has, only, atMostOne, size, lowest, after, next}
 use Rattle.plan.proofs.Sets.{eqb-true, eqb-in, off, only-in, only-is, only-has, has-alone, alone-only, at-most-one-only, has-bit, size-some, some-place}
 
 -- ---- ones: how many places a set has
@@ -82,9 +82,6 @@ unfolding trailingZeros lowest has
 trailing-lowest zero s = refl
 trailing-lowest (suc m) s = under-is (s % 2) (trailingZeros m (s / 2)) (lowest m (s / 2)) (omega arith) (trailing-lowest m (s / 2))
 
-pub lowest-le : (m s : ℕ) → lowest m s ≤ m
-lowest-le m s = subst (λ (n : ℕ). n ≤ m) (trailing-lowest m s) (trailing-le m s)
-
 -- no place of the set is below its lowest
 pub below-lowest : (m s k : ℕ) → k < lowest m s → has s k ≡ false
 unfolding lowest has
@@ -95,7 +92,7 @@ below-lowest (suc m) s (suc k) h =
     if-case (λ (n : ℕ). suc k < n → has (s / 2) k ≡ false) (eqb (s % 2) 1) 0 (suc (lowest m (s / 2))) (λ e l. absurd (omega arith))
     (λ e l. below-lowest m (s / 2) k (omega arith)) h
 
--- and the lowest is one, where the set has any of the first m
+-- and where it is below m, it is one of them
 pub lowest-in : (m s : ℕ) → lowest m s < m → has s (lowest m s) ≡ true
 unfolding lowest has
 lowest-in zero s h = absurd (omega arith)
@@ -129,9 +126,10 @@ power-lowest m k l =
     alone-only k (lowest m (2 ^ k)) (lowest-in m (2 ^ k) (omega arith)))
 
 -- a set is that of k alone where its ones are one, and its trailing zeros k, and nowhere else
-pub only-counted : (m s k : ℕ) → s < 2 ^ m → k < m → and (eqb (size m s) 1) (eqb (lowest m s) k) ≡ only s k
+pub only-counted : (m s k : ℕ) → s < 2 ^ m → k < m → and (eqb (ones s) 1) (eqb (trailingZeros m s) k) ≡ only s k
 only-counted m s k l h =
-    same-test (and (eqb (size m s) 1) (eqb (lowest m s) k)) (only s k)
+    rw (ones-size m s l, trailing-lowest m s)
+    (same-test (and (eqb (size m s) 1) (eqb (lowest m s) k)) (only s k)
     (λ e.
     let n = eqb-true (size m s) 1 (and-first (eqb (size m s) 1) (eqb (lowest m s) k) e) in
     let j = eqb-true (lowest m s) k (and-second (eqb (size m s) 1) (eqb (lowest m s) k) e) in
@@ -140,7 +138,7 @@ only-counted m s k l h =
     let p = only-is s k e in
     let few = ltb→lt (size m s) 2 (subst T (sym (size-at-most-one m s l ∙ at-most-one-only s k e)) tt) in
     let some = size-some m s k l (only-has s k e) in
-    and-in (eqb (size m s) 1) (eqb (lowest m s) k) (eqb-in (size m s) 1 (omega arith)) (eqb-in (lowest m s) k (ap (lowest m) p ∙ power-lowest m k h)))
+    and-in (eqb (size m s) 1) (eqb (lowest m s) k) (eqb-in (size m s) 1 (omega arith)) (eqb-in (lowest m s) k (ap (lowest m) p ∙ power-lowest m k h))))
 
 -- ---- from one place to the next
 
@@ -151,18 +149,57 @@ has-from s k j =
     ∙ ap (λ (x : ℕ). eqb (x % 2) 1) (div-div-eq-div-mul s (2 ^ k) (2 ^ j) ∙ ap (λ (x : ℕ). s / x) (sym (pow-add 2 k j)))
     ∙ sym (has-bit s (k + j))
 
-pub next-above : (m s k : ℕ) → k < next m s k
+-- a set moved up by k: nothing below, and what it had from k on
+moved-low : (k s j : ℕ) → j < k → has (s * 2 ^ k) j ≡ false
+unfolding has
+moved-low zero s j l = absurd (omega arith)
+moved-low (suc k) s zero l = rw (shifted-even s k) refl
+moved-low (suc k) s (suc j) l = rw (shifted-half s k) (moved-low k s j (omega arith))
+
+moved-high : (k s j : ℕ) → has (s * 2 ^ k) (k + j) ≡ has s j
+moved-high k s j = sym (has-from (s * 2 ^ k) k j) ∙ ap (λ (x : ℕ). has x j) (mul-div-cancel s (pow-pos k))
+
+-- none up to k
+pub after-out : (s k j : ℕ) → j ≤ k → has (after s k) j ≡ false
+unfolding after
+after-out s k j l = moved-low (suc k) (s / 2 ^ suc k) j (omega arith)
+
+-- and from there on those of the set
+pub after-has : (s k j : ℕ) → k < j → has (after s k) j ≡ has s j
+unfolding after
+after-has s k j l =
+    let e : suc k + (j - suc k) ≡ j = omega arith in
+    subst (λ x. has (s / 2 ^ suc k * 2 ^ suc k) x ≡ has s x) e (moved-high (suc k) (s / 2 ^ suc k) (j - suc k) ∙ has-from s (suc k) (j - suc k))
+
+-- as the code makes it, in words that hold the set: what is up to k shifted out, and the rest shifted back
+pub after-shifted : (w s k : ℕ) → s < w → s / 2 ^ k / 2 * 2 % w * 2 ^ k % w ≡ after s k
+unfolding after
+after-shifted w s k l =
+    let q = s / 2 ^ suc k in
+    let e : s / 2 ^ k / 2 ≡ q = div-div-eq-div-mul s (2 ^ k) 2 ∙ ap (λ (x : ℕ). s / x) (sym (pow-suc 2 k)) in
+    let back : q * 2 * 2 ^ k ≡ q * 2 ^ suc k = mul-assoc q 2 (2 ^ k) ∙ ap (λ (x : ℕ). q * x) (sym (pow-succ' 2 k)) in
+    let all : q * 2 ^ suc k ≤ s = div-mul-le-self s (2 ^ suc k) in
+    let some : q * 2 ≤ q * 2 ^ suc k = mul-le-mul-left q (omega (arith, pow-suc 2 k, pow-pos k)) in
+    let low : q * 2 % w ≡ q * 2 = mod-eq-of-lt (omega arith) in
+    rw (e, low, back) (mod-eq-of-lt (omega arith))
+
+pub next-above : (m s k : ℕ) → k < m → k < next m s k
 unfolding next
-next-above m s k = omega arith
+next-above m s k l =
+    by-cases (ltb k (lowest m (after s k))) (λ e. ltb→lt k (lowest m (after s k)) (subst T (sym e) tt))
+    (λ e.
+    let h = nltb→le k (lowest m (after s k)) (subst (λ b. T (not b)) (sym e) tt) in
+    clash (has (after s k) (lowest m (after s k))) (lowest-in m (after s k) (omega arith)) (after-out s k (lowest m (after s k)) h))
 
 -- no place of the set stands between k and the next
 pub before-next : (m s k j : ℕ) → k < j → j < next m s k → has s j ≡ false
 unfolding next
-before-next m s k j h l =
-    let e : suc k + (j - suc k) ≡ j = omega arith in
-    subst (λ x. has s x ≡ false) e (sym (has-from s (suc k) (j - suc k)) ∙ below-lowest m (s / 2 ^ suc k) (j - suc k) (omega arith))
+before-next m s k j h l = sym (after-has s k j h) ∙ below-lowest m (after s k) j l
 
--- and the next is one, where the set has any of the m places behind k
-pub next-in : (m s k : ℕ) → next m s k < suc k + m → has s (next m s k) ≡ true
+-- and where it is below m, it is one of them
+pub next-in : (m s k : ℕ) → k < m → next m s k < m → has s (next m s k) ≡ true
 unfolding next
-next-in m s k l = sym (has-from s (suc k) (lowest m (s / 2 ^ suc k))) ∙ lowest-in m (s / 2 ^ suc k) (omega arith)
+next-in m s k l h = sym (after-has s k (next m s k) (next-above m s k l)) ∙ in-after h
+  where
+    in-after : next m s k < m → has (after s k) (next m s k) ≡ true
+    in-after = lowest-in m (after s k)

@@ -1,8 +1,8 @@
--- Sets worked out by hand: how many resources each has, whether it has one at most, the lowest, and the next behind a place.
+-- Sets worked out by hand: how many resources each has, whether it has one at most, the lowest, and the next after a place.
 use mathlib.Core.Path.{_≡_, refl}
 use mathlib.Core.Bool.{Bool, true, false}
 use Prim.Native.Nat.{ℕ, _+_, _-_, _^_}
-use Rattle.plan.specs.Sets.{has, atMostOne, size, lowest, next}
+use Rattle.plan.specs.Sets.{has, atMostOne, size, lowest, after, next}
 
 -- a set of so many resources, one at most or not, and the lowest of them
 abbrev Counted : ℕ → ℕ → Bool → ℕ → Type 0
@@ -15,10 +15,10 @@ unfolding size atMostOne lowest has
 counted-cases =
     ((refl, refl, refl), (refl, refl, refl), (refl, refl, refl), (refl, refl, refl), (refl, refl, refl), (refl, refl, refl), (refl, refl, refl), (refl, refl, refl))
 
--- in the set of the second and the fourth; of the first and the last; of all; and of none. Behind the last resource comes no place of 64
-pub next-cases : (next 64 10 0 ≡ 1) × (next 64 10 1 ≡ 3) × (next 64 10 2 ≡ 3) × (next 64 10 3 ≡ 68)
-    × (next 64 (2 ^ 63 + 1) 0 ≡ 63) × (next 64 (2 ^ 63 + 1) 62 ≡ 63) × (next 64 (2 ^ 63 + 1) 63 ≡ 128)
-    × (next 64 (2 ^ 64 - 1) 0 ≡ 1) × (next 64 (2 ^ 64 - 1) 62 ≡ 63) × (next 64 (2 ^ 64 - 1) 63 ≡ 128)
-    × (next 64 0 0 ≡ 65)
-unfolding next lowest has
+-- in the set of the second and the fourth; of the first and the last; of all; and of none. 64 where none is left
+pub next-cases : (next 64 10 0 ≡ 1) × (next 64 10 1 ≡ 3) × (next 64 10 2 ≡ 3) × (next 64 10 3 ≡ 64)
+    × (next 64 (2 ^ 63 + 1) 0 ≡ 63) × (next 64 (2 ^ 63 + 1) 62 ≡ 63) × (next 64 (2 ^ 63 + 1) 63 ≡ 64)
+    × (next 64 (2 ^ 64 - 1) 0 ≡ 1) × (next 64 (2 ^ 64 - 1) 62 ≡ 63) × (next 64 (2 ^ 64 - 1) 63 ≡ 64)
+    × (next 64 0 0 ≡ 64)
+unfolding next after lowest has
 next-cases = (refl, refl, refl, refl, refl, refl, refl, refl, refl, refl, refl)

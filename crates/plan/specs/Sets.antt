@@ -1,7 +1,7 @@
 -- A set of resources as a number: "bit k is resource k". What holds of sets is said over numbers, whatever their width.
 use mathlib.Core.Path.{_≡_}
 use mathlib.Core.Bool.{Bool, true}
-use Prim.Native.Nat.{ℕ, zero, suc, _+_, _-_, _/_, _%_, _^_}
+use Prim.Native.Nat.{ℕ, zero, suc, _+_, _-_, _*_, _/_, _%_, _^_}
 use lib.Bits.{bitAnd, bitOr, bitXor}
 use lib.Dec.{eqb}
 use Rattle.integers.specs.Tests.{if}
@@ -19,7 +19,7 @@ has s (suc k) = has (s / 2) k
 unfoldable pub only : ℕ → ℕ → Bool
 only s k = eqb s (2 ^ k)
 
--- a set of one resource, or of none: nothing is left without its lowest bit
+-- a set of one resource, or of none: nothing is left without its lowest bit (the law `size-at-most-one`)
 unfoldable pub atMostOne : ℕ → Bool
 atMostOne s = eqb (bitAnd s (s - 1)) 0
 
@@ -41,9 +41,13 @@ unfoldable pub lowest : ℕ → ℕ → ℕ
 lowest zero s = 0
 lowest (suc m) s = if (has s 0) 0 (suc (lowest m (s / 2)))
 
--- the next place behind k that the set has: the lowest of the m behind it; k + 1 + m where it has none of them (the laws `next-in`, `before-next`)
+-- the places of the set after k (the laws `after-out`, `after-has`)
+unfoldable pub after : ℕ → ℕ → ℕ
+after s k = s / 2 ^ suc k * 2 ^ suc k
+
+-- the next place after k, of the first m, that the set has; m where it has none (the laws `next-in`, `before-next`)
 unfoldable pub next : ℕ → ℕ → ℕ → ℕ
-next m s k = suc k + lowest m (s / 2 ^ suc k)
+next m s k = lowest m (after s k)
 
 -- the places of either set (the law `union-has`)
 unfoldable pub union : ℕ → ℕ → ℕ

@@ -1,4 +1,4 @@
-// The nouns of a plan: days and powers, their ranges, tasks, resources, bands, the sense, and every answer a call can give.
+// The nouns of a plan: days and powers, their ranges, tasks, resources and sets of them, bands, the sense, and every answer a call can give.
 // "A day number is never added to a power, so the two get separate kinds in the code."
 ghost use mathlib.Core.Path.{_≡_};
 ghost use Prim.Native.Nat.{_<_};
@@ -455,7 +455,7 @@ pub fn has_resource(set: u64, k: u64) -> bool
     (set >> k) % 2 == 1
 }
 
-// By the one set that it can be: to count its ones and trailing zeros takes more instructions.
+// By the one set that it can be: to count the ones and trailing zeros of the set takes more instructions (docs/DECISIONS.md, 63).
 pub fn only_resource(set: u64, k: u64) -> bool
     requires { ⌜ k < setBits ⌝ }
     ensures { λ r. ⌜ r ≡ only set k ⌝ }
@@ -470,8 +470,8 @@ pub fn set_size(set: u64) -> u64
     u64::count_ones(set) as u64
 }
 
-// Whether one resource is left, or none. The count alone would do, or set_size: but this form alone is compiled as well as no count at all, and a
-// step, which has it inside its loops, is the dearest code of all (measured: docs/DECISIONS.md, 64).
+// Whether one resource is left, or none. Only this form of the count costs no more than the code before it, and a step has it in its loops
+// (docs/DECISIONS.md, 64).
 pub fn at_most_one(set: u64) -> bool
     ensures { λ r. ⌜ r ≡ atMostOne set ⌝ }
 {
@@ -488,12 +488,12 @@ pub fn lowest_resource(set: u64) -> u64
     u64::trailing_zeros(set) as u64
 }
 
-// The next resource of a set after k, in list order; SET_BITS or more where none is left.
+// The next resource of a set after k, in list order; SET_BITS where none is left.
 pub fn next_resource(set: u64, k: u64) -> u64
     requires { ⌜ k < setBits ⌝ }
     ensures { λ r. ⌜ r ≡ next setBits set k ⌝ }
 {
-    k + 1 + lowest_resource(set >> k >> 1)
+    lowest_resource(set >> k >> 1 << 1 << k)
 }
 
 pub fn without_resource(set: u64, k: u64) -> u64

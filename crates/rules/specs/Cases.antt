@@ -126,6 +126,13 @@ abbrev crews : ℕ → List Resource
 crews zero = []
 crews (suc n) = resource (pos n) (pos 0) ∷ crews n
 
+-- four feeders, and what stands on a set of them on day 5, with so much power
+abbrev feeders : List Resource
+feeders = resource (pos 1) (pos 1) ∷ resource (pos 2) (pos 1) ∷ resource (pos 3) (pos 1) ∷ resource (pos 4) (pos 0) ∷ []
+
+abbrev unit : ℕ → ℕ → Task
+unit s h = task s (one (pos 5)) (one (pos 1)) (one (pos 6)) (one (pos h))
+
 abbrev pub ownCases : List Case
 ownCases =
     -- a negative height does not count while the task may still go elsewhere: B leaves the first resource, and A stands
@@ -199,6 +206,9 @@ ownCases =
       tasks = task 3 (one (pos 0)) (one (pos 1)) (one (pos 1)) (range (pos 0) (pos 4)) ∷ [];
       result = done 0 (task 2 (one (pos 0)) (one (pos 1)) (one (pos 1)) (range (pos 2) (pos 4)) ∷ []);
     }
+    -- list order once more, of the mobile units of examples/mobile-units.txt: in the second pass the first resource's step makes the second
+    -- one need its unit, in the same pass
+    ∷ settles AtLeast feeders (unit 1 0 ∷ unit 2 0 ∷ unit 4 0 ∷ unit 5 1 ∷ unit 3 1 ∷ unit 10 1 ∷ []) 3 (unit 1 0 ∷ unit 2 0 ∷ unit 4 0 ∷ unit 4 1 ∷ unit 1 1 ∷ unit 2 1 ∷ [])
     -- a sure task, unbalanced, is needed too
     ∷ record {
       call = Step 0;

@@ -56,6 +56,9 @@ module _ (i : tie.In-loop Inv-loop μ-loop) where
       let v = l .loop .inv in
       stays-ready (b .pre .0 .1) (l .loop .s) (l .loop .keys) (l .loop .spare) (l .loop .ss) (v .5 .keeps (v .4) .accepted) (v .0) (v .1) (v .2) (v .3)
 
+  small : l .loop .r < 64
+  small = place-small ready (l .loop .r) here
+
   -- past the step of its resource
   past : (o : Passed) (us : List Task) → Took (resourceStep (f b) (l .loop .r)) (f b) (l .loop .p .changed) (tasksOf (l .loop .s)) o us → Passing (f b) (ts b) (b .args .first .changed) (l .loop .r + 1) o us
   past o us t =
@@ -100,12 +103,12 @@ abbrev turn : tie.Else1 Inv-loop μ-loop → tie.In-loop Inv-loop μ-loop
 turn c = c .before .before .before .before .before .before .before .before .before .before .before .before .before
 
 next-resource-requires : tie.Need-next-resource-requires Inv-loop μ-loop
-next-resource-requires c κs = place-small (ready (turn c)) (l (turn c) .loop .r) (here (turn c))
+next-resource-requires c κs = small (turn c)
 
 loop-less : tie.Need-loop-less Inv-loop μ-loop
 loop-less c =
     let i = turn (c .before) in
-    let up : l i .loop .r < c .next-resource .result = subst (λ (n : ℕ). l i .loop .r < n) (sym (c .next-resource .ensures)) (next-above 64 _ (l i .loop .r)) in
+    let up : l i .loop .r < c .next-resource .result = subst (λ (n : ℕ). l i .loop .r < n) (sym (c .next-resource .ensures)) (next-above 64 _ (l i .loop .r) (small i)) in
     omega (arith, here i)
 
 loop-again : tie.Need-loop-again Inv-loop μ-loop
@@ -121,7 +124,7 @@ loop-again c =
       o .kept .1 .1 .1 .1 .1 .1 .1 .0 ∙ v .3,
       ok,
       rw (c .next-resource .ensures)
-          (to-next (f (b i)) (ts (b i)) (b i .pre .0 .1 .accepted) (b i .args .first .changed) (o .result) (tasksOf (o .last .1 .1 .0)) ok 64 (l i .loop .r) (past i (o .result) (tasksOf (o .last .1 .1 .0)) (o .ensures))),
+          (to-next (f (b i)) (ts (b i)) (b i .pre .0 .1 .accepted) (b i .args .first .changed) (o .result) (tasksOf (o .last .1 .1 .0)) ok 64 (l i .loop .r) (small i) (past i (o .result) (tasksOf (o .last .1 .1 .0)) (o .ensures))),
     )
 
 same-length-5 : tie.Need-same-length-5 Inv-loop μ-loop
