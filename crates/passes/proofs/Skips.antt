@@ -30,6 +30,7 @@ module _ (f : Frame) (ts : List Task) (a : check f ts ≡ Accepted) (before : Bo
       let d : resourceCount f - suc r ≡ 0 = omega arith in
       record { rest = rw d (rw e at (g .rest)); keeps = g .keeps; noted = g .noted }
 
+  -- past a place that the mask does not have
   over-one : (r : ℕ) → has (p .mask) r ≡ false → At r → At (suc r)
   over-one r h g =
       by-cases (ltb r (resourceCount f))
@@ -38,6 +39,7 @@ module _ (f : Frame) (ts : List Task) (a : check f ts ≡ Accepted) (before : Bo
       subst At (add-one r) (passing-more f ts a before r p us g l ok p us (rest-took f us p ok (g .noted ok .idle) r l h)))
       (λ e. beyond r (nltb→le r (resourceCount f) (subst (λ b. T (not b)) (sym e) tt)) g)
 
+  -- past d of them
   over : (d r : ℕ) → ((j : ℕ) → r ≤ j → j < r + d → has (p .mask) j ≡ false) → At r → At (r + d)
   over zero r h g = let e : r + 0 ≡ r = omega arith in rw e g
   over (suc d) r h g =

@@ -52,7 +52,8 @@ pub fn resource_step(
     }
 }
 
-// The steps in list order, on what balance left, of the resources whose bits say that they may change something: from one such bit to the next.
+// The steps in list order, on what balance left, of the resources whose bits say that they may change something. The next is looked for after each
+// step, which may make a later resource due in this pass (docs/DECISIONS.md, 65).
 fn steps_rows(
     q: &[ResourceRow],
     b: &[BandRow],

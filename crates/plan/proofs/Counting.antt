@@ -149,7 +149,7 @@ has-from s k j =
     ∙ ap (λ (x : ℕ). eqb (x % 2) 1) (div-div-eq-div-mul s (2 ^ k) (2 ^ j) ∙ ap (λ (x : ℕ). s / x) (sym (pow-add 2 k j)))
     ∙ sym (has-bit s (k + j))
 
--- a set moved up by k: nothing below, and what it had from k on
+-- a set moved up by k: nothing below k, and from k on what it had
 moved-low : (k s j : ℕ) → j < k → has (s * 2 ^ k) j ≡ false
 unfolding has
 moved-low zero s j l = absurd (omega arith)

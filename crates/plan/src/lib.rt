@@ -470,8 +470,8 @@ pub fn set_size(set: u64) -> u64
     u64::count_ones(set) as u64
 }
 
-// Whether one resource is left, or none. Only this form of the count costs no more than the code before it, and a step has it in its loops
-// (docs/DECISIONS.md, 64).
+// Whether one resource is left, or none. The count alone would say so of the empty set too: the test for it stands here because with it a step, which
+// asks this in its loops, is compiled as well as with `set & (set - 1) == 0` (docs/DECISIONS.md, 64).
 pub fn at_most_one(set: u64) -> bool
     ensures { λ r. ⌜ r ≡ atMostOne set ⌝ }
 {
@@ -488,7 +488,7 @@ pub fn lowest_resource(set: u64) -> u64
     u64::trailing_zeros(set) as u64
 }
 
-// The next resource of a set after k, in list order; SET_BITS where none is left.
+// The next resource of a set after k, in list order; SET_BITS where none is left. Shifted by k and by 1, since k + 1 may be SET_BITS.
 pub fn next_resource(set: u64, k: u64) -> u64
     requires { ⌜ k < setBits ⌝ }
     ensures { λ r. ⌜ r ≡ next setBits set k ⌝ }

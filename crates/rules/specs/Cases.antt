@@ -126,12 +126,12 @@ abbrev crews : ℕ → List Resource
 crews zero = []
 crews (suc n) = resource (pos n) (pos 0) ∷ crews n
 
--- four feeders, and what stands on a set of them on day 5, with so much power
+-- four feeders, and a job on day 5 on one of a set of them, with so much power
 abbrev feeders : List Resource
 feeders = resource (pos 1) (pos 1) ∷ resource (pos 2) (pos 1) ∷ resource (pos 3) (pos 1) ∷ resource (pos 4) (pos 0) ∷ []
 
-abbrev unit : ℕ → ℕ → Task
-unit s h = task s (one (pos 5)) (one (pos 1)) (one (pos 6)) (one (pos h))
+abbrev onDay5 : ℕ → ℕ → Task
+onDay5 s h = task s (one (pos 5)) (one (pos 1)) (one (pos 6)) (one (pos h))
 
 abbrev pub ownCases : List Case
 ownCases =
@@ -206,9 +206,9 @@ ownCases =
       tasks = task 3 (one (pos 0)) (one (pos 1)) (one (pos 1)) (range (pos 0) (pos 4)) ∷ [];
       result = done 0 (task 2 (one (pos 0)) (one (pos 1)) (one (pos 1)) (range (pos 2) (pos 4)) ∷ []);
     }
-    -- list order once more, of the mobile units of examples/mobile-units.txt: in the second pass the first resource's step makes the second
-    -- one need its unit, in the same pass
-    ∷ settles AtLeast feeders (unit 1 0 ∷ unit 2 0 ∷ unit 4 0 ∷ unit 5 1 ∷ unit 3 1 ∷ unit 10 1 ∷ []) 3 (unit 1 0 ∷ unit 2 0 ∷ unit 4 0 ∷ unit 4 1 ∷ unit 1 1 ∷ unit 2 1 ∷ [])
+    -- list order once more: examples/mobile-units.txt. In the second pass the step of the first feeder takes a unit from the second, whose own step
+    -- then needs the other one
+    ∷ settles AtLeast feeders (onDay5 1 0 ∷ onDay5 2 0 ∷ onDay5 4 0 ∷ onDay5 5 1 ∷ onDay5 3 1 ∷ onDay5 10 1 ∷ []) 3 (onDay5 1 0 ∷ onDay5 2 0 ∷ onDay5 4 0 ∷ onDay5 4 1 ∷ onDay5 1 1 ∷ onDay5 2 1 ∷ [])
     -- a sure task, unbalanced, is needed too
     ∷ record {
       call = Step 0;

@@ -117,6 +117,7 @@ loop-again c =
     let o = s .resource-step in
     let i = turn (c .before) in
     let v = l i .loop .inv in
+    let us = tasksOf (o .last .1 .1 .0) in
     let ok : o .result .ok ≡ true = not-false (o .result .ok) (c .before .if1 .left) in (
       o .kept .1 .1 .0 ∙ v .0,
       o .kept .1 .1 .1 .1 .1 .0 ∙ v .1,
@@ -124,7 +125,8 @@ loop-again c =
       o .kept .1 .1 .1 .1 .1 .1 .1 .0 ∙ v .3,
       ok,
       rw (c .next-resource .ensures)
-          (to-next (f (b i)) (ts (b i)) (b i .pre .0 .1 .accepted) (b i .args .first .changed) (o .result) (tasksOf (o .last .1 .1 .0)) ok 64 (l i .loop .r) (small i) (past i (o .result) (tasksOf (o .last .1 .1 .0)) (o .ensures))),
+          (to-next (f (b i)) (ts (b i)) (b i .pre .0 .1 .accepted) (b i .args .first .changed) (o .result) us ok 64 (l i .loop .r) (small i)
+          (past i (o .result) us (o .ensures))),
     )
 
 same-length-5 : tie.Need-same-length-5 Inv-loop μ-loop
