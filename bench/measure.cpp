@@ -6,10 +6,12 @@
 //   measure ours SEED SIZE NUMBERS BANDS [level]     the same of stepped plans with so many bands; level: bands that change nothing
 //   measure ours SEED SIZE NUMBERS resources COUNT [any]     the same of service plans with so many crews or feeders, 1 to 16; any (crew
 //                                        plans only): each service may be done by any crew
+//   measure ours SEED SIZE NUMBERS held ...     the same plans with every resource held; after `held` nothing or the words of the two above
 //   measure times SEED SIZE NUMBERS ...  prints the nanoseconds of settling each of these plans once, the best turn of each, all together;
 //                                        after NUMBERS the same words as for `ours`
 //   measure gecode SEED SIZE NUMBERS     each plan of the list once, inside `measured_gecode`
 //   measure bands                        says whether the engine takes plans with bands
+//   measure held                         says whether the engine takes plans with held resources
 #include "../include/gristwaltz.h"
 #ifdef WITH_GECODE
 #include "gecode_side.hpp"
@@ -108,7 +110,8 @@ constexpr bool with_gecode = false;
 // A measurement of what is not what it should be is worth nothing.
 void demand(bool holds, const char *what, const Plan &plan) {
   if (holds) return;
-  std::fprintf(stderr, "measure: %s (%s, %zu tasks, %zu bands)\n", what, plan.kind.c_str(), plan.tasks.size(), plan.bands.size());
+  std::fprintf(stderr, "measure: %s (%s, %zu tasks, %zu bands%s)\n", what, plan.kind.c_str(), plan.tasks.size(), plan.bands.size(),
+               plan.held ? ", held" : "");
   std::exit(1);
 }
 
@@ -167,11 +170,13 @@ Line measured(const Plan &plan, double budget) {
   return line;
 }
 
-// An archive from before request 1 refuses every file with bands.
-bool takes_bands() {
-  std::vector<std::uint8_t> file = file_of({true, {0}, {}, "", {{0, 0, 0}}});
+// An archive from before request 1 refuses every file with bands, one from before request 4 every file with a held resource.
+bool takes(const Plan &plan) {
+  std::vector<std::uint8_t> file = file_of(plan);
   return gristwaltz_check(file.data(), file.size()) == 0;
 }
+bool takes_bands() { return takes({true, {0}, {}, "", {{0, 0, 0}}}); }
+bool takes_held() { return takes(with_held_resources({true, {0}, {}, ""})); }
 
 void print_line(int size, int number, const Plan &plan, const Line &line) {
   std::printf("%d %d %s %s %u %u %ld %.0f %.0f %.0f %.0f %ld %d %ld %ld %d", size, number, plan.kind.c_str(), plan.at_least ? "least" : "most",
@@ -247,7 +252,15 @@ void count_gecode(const std::vector<Plan> &plans) {
   }
 }
 
-// The words that name plans: SEED SIZE NUMBERS, then nothing, BANDS [level], or resources COUNT [any].
+// The words that name plans: SEED SIZE NUMBERS, then held or not, then nothing, BANDS [level], or resources COUNT [any].
+bool with_held(const std::vector<std::string> &words) { return words.size() > 3 && words[3] == "held"; }
+
+std::vector<std::string> without_held(std::vector<std::string> words) {
+  if (with_held(words)) words.erase(words.begin() + 3);
+  return words;
+}
+
+// From here to plan_named the words are those without held.
 bool with_resources(const std::vector<std::string> &words) { return words.size() > 3 && words[3] == "resources"; }
 
 bool name_plans(const std::vector<std::string> &words) {
@@ -274,7 +287,10 @@ Plan plan_named(const std::vector<std::string> &words, int number) {
 std::vector<Plan> plans_named(const std::vector<std::string> &words) {
   std::vector<Plan> plans;
   std::istringstream numbers(words[2]);
-  for (std::string number; std::getline(numbers, number, ',');) plans.push_back(plan_named(words, std::stoi(number)));
+  for (std::string number; std::getline(numbers, number, ',');) {
+    Plan plan = plan_named(without_held(words), std::stoi(number));
+    plans.push_back(with_held(words) ? with_held_resources(plan) : plan);
+  }
   return plans;
 }
 
@@ -284,13 +300,14 @@ int main(int count, char **given) {
   std::vector<std::string> words(given + std::min(count, 2), given + count);
   std::string what = count > 1 ? given[1] : "";
   if (what == "all" && words.size() == 2) measure_all(std::stoull(words[0]), std::stod(words[1]));
-  else if (what == "ours" && name_plans(words)) count_ours(plans_named(words));
-  else if (what == "times" && name_plans(words)) time_ours(plans_named(words));
+  else if (what == "ours" && name_plans(without_held(words))) count_ours(plans_named(words));
+  else if (what == "times" && name_plans(without_held(words))) time_ours(plans_named(words));
   else if (what == "gecode" && words.size() == 3) count_gecode(plans_named(words));
   else if (what == "bands" && words.empty()) std::puts(takes_bands() ? "yes" : "no");
+  else if (what == "held" && words.empty()) std::puts(takes_held() ? "yes" : "no");
   else {
-    std::fprintf(stderr, "usage: measure all SEED SECONDS | measure ours|times SEED SIZE NUMBERS [BANDS [level] | resources COUNT [any]] | "
-                         "measure gecode SEED SIZE NUMBERS | measure bands\n");
+    std::fprintf(stderr, "usage: measure all SEED SECONDS | measure ours|times SEED SIZE NUMBERS [held] [BANDS [level] | resources COUNT [any]] | "
+                         "measure gecode SEED SIZE NUMBERS | measure bands | measure held\n");
     return 2;
   }
   return 0;

@@ -363,10 +363,16 @@ Plan without_bands(Plan plan) {
   return plan;
 }
 
+Plan with_held_resources(Plan plan) {
+  plan.held = true;
+  return plan;
+}
+
 std::vector<std::uint8_t> file_of(const Plan &plan) {
   std::vector<std::uint8_t> file = {'P', 'L', plan.at_least};
   put(file, plan.limits.size(), 1), put(file, plan.tasks.size(), 2);
-  for (std::size_t r = 0; r < plan.limits.size(); r++) file.insert(file.end(), {'R', 'S'}), put(file, r + 1, 4), put(file, plan.limits[r], 4);
+  std::uint8_t kind = plan.held ? 'H' : 'S';
+  for (std::size_t r = 0; r < plan.limits.size(); r++) file.insert(file.end(), {'R', kind}), put(file, r + 1, 4), put(file, plan.limits[r], 4);
   for (const Band &band : plan.bands)
     file.insert(file.end(), {'L', 'B'}), put(file, band.place, 2), put(file, band.first, 4), put(file, band.limit, 4);
   for (const Task &t : plan.tasks) {

@@ -23,7 +23,7 @@ struct Band {
   int place, first, limit;
 };
 
-// A plan as document 01 and request 1 have it: at least or at most, a limit for each resource, tasks, bands.
+// A plan as document 01 and requests 1 and 4 have it: at least or at most, a limit for each resource, tasks, bands, resources plain or held.
 struct Plan {
   bool at_least;
   std::vector<int> limits;
@@ -31,6 +31,7 @@ struct Plan {
   std::string kind;  // table, crews, feeders, season or stepped; any: crews, each service by any of them
   std::vector<Band> bands = {};
   int stand_ins = 0;  // the last so many tasks are fixed ones that stand in for bands: see stand_ins.hpp
+  bool held = false;  // every resource, else none
 };
 
 // Plan number 0 .. plan_count() - 1 of so many tasks, the same for one seed: first Table 2's 576 patterns (288 in either sense), then service
@@ -60,6 +61,9 @@ Days days_on(const Plan &plan, int r);
 // The same plan with each band at its resource's own limit (bands that change nothing), and without its bands.
 Plan with_level_bands(Plan plan);
 Plan without_bands(Plan plan);
+
+// The same plan with every resource held: the bare days between its tasks are checked too.
+Plan with_held_resources(Plan plan);
 
 // The plan as a plan file, and the tasks that a plan file holds.
 std::vector<std::uint8_t> file_of(const Plan &plan);

@@ -4,6 +4,10 @@
  * A plan is a plan file in memory (at most 10,150 bytes). Every call takes any bytes, keeps no state, uses no heap and may run on any number
  * of threads at once. `file` and `out` point to as many bytes as their lengths say, are not NULL, and do not overlap.
  *
+ * A resource record has the mark RS or RH, in any mixture, and is written back with its own. RS is a plain resource: its limit has to hold on
+ * each day that a task covers there. RH is a held one: it has to hold on all days from the least origin to one before the greatest end of the
+ * tasks placed there, on the bare days between tasks too. A task of duration 0 covers no day and takes part in both ends.
+ *
  * Every call answers one number: the refusal number times 2^32 plus the place, or, where the refusal number is 0, a number of passes: those
  * that settling made, or those that it makes at most (0 for every call that has none to tell). A call that is lent an `out` writes on success
  * exactly as many bytes as `file` has to its front; on a refusal the whole of `out` is as it was.

@@ -12,6 +12,7 @@ TASK_COLOURS = (
 INK, MUTED, FAINT, GRID, PAPER, LANE = "#1d2733", "#5d6977", "#9aa5b1", "#e3e8ee", "#ffffff", "#f5f7fa"
 MARK, ALARM = "#b4500b", "#c0202c"
 LEVEL, LEVEL_SURE, LEVEL_WRONG = "#e1e5ea", "#b5bdc7", "#eda9ae"
+BARE, BARE_WRONG = "#ffe7a3", "#f9d9db"
 FONT = "'Helvetica Neue', Helvetica, Arial, 'DejaVu Sans', sans-serif"
 BOLD = 1.12  # bold letters are this much wider
 
@@ -25,6 +26,7 @@ BAR = 14
 LANE_HEAD = 34
 HEAD_LINE = 18
 LIMITS = 16
+HELD = 18
 STRIP = 46
 LANE_GAP = 18
 AXIS = 30
@@ -50,13 +52,14 @@ class Scale:
 
 @dataclass(frozen=True)
 class Lane:
-    """A lane: the resource's place (None for tasks on no listed resource), its tasks, its top, the lines of its heading and its limits."""
+    """A lane: its resource's place (None for tasks on no listed resource), tasks, top, lines of its heading, limits, and whether it is held."""
 
     place: object
     tasks: tuple
     top: float
     heading: tuple = ("",)
     limits: tuple = ()
+    held: bool = False
 
     def rows_top(self):
         """Where the rows of tasks begin."""
@@ -70,9 +73,13 @@ class Lane:
         """Where the numbers of limits that change begin."""
         return self.rows_top() + ROW * self.rows() + 6
 
+    def held_top(self):
+        """Where the row of a held resource's days begins."""
+        return self.limits_top() + (LIMITS if self.numbered() else 0)
+
     def strip_top(self):
         """Where the strip of the level begins."""
-        return self.limits_top() + (LIMITS if self.numbered() else 0)
+        return self.held_top() + (HELD if self.held and self.tasks else 0)
 
     def numbered(self):
         """The stretches of a limit that changes which are wide enough for its number."""
@@ -159,6 +166,29 @@ def sure(task, place):
     return task.origin.high, task.end.low
 
 
+def held_span(tasks, place):
+    """The days on which a held resource is checked whatever is chosen, or None."""
+    # by the tasks that can be nowhere else: one has begun on each of these days, and one ends later
+    alone = [task for task in tasks if task.places == 1 << place and not twisted(task)]
+    if not alone:
+        return None
+    first, last = min(task.origin.high for task in alone), max(task.end.low for task in alone)
+    return (first, last) if first < last else None
+
+
+def bare_spans(tasks, place):
+    """The days of the held span on which no task is sure: there a plain resource is not checked."""
+    span, bare = held_span(tasks, place), []
+    if not span:
+        return bare
+    day, last = span
+    for first, after in sorted(found for found in (sure(task, place) for task in tasks) if found):
+        bare.append((day, first))
+        day = max(day, after)
+    bare.append((day, last))
+    return [found for found in bare if found[0] < found[1]]
+
+
 def day_span(plan):
     """The first day drawn and the day after the last one."""
     days = [day for task in plan.tasks for day in (*possible(task), task.origin.high, task.end.low)]
@@ -189,18 +219,20 @@ def ticks(first, last):
 # Levels
 
 
-def level_steps(tasks, place, sense):
-    """The best level left, as (first day, day after, level, whether a task is sure there)."""
+def level_steps(tasks, place, sense, held=None):
+    """The best level left, as (first day, day after, level, whether it is checked: where a task is sure, and on held days)."""
     changes, steps = level_changes(tasks, place, sense), []
+    add_span(changes, held, (0, 0, 1))
     level = may = must = 0
     days = sorted(changes)
     for first, last in zip(days, days[1:]):
         level, may, must = (a + b for a, b in zip((level, may, must), changes[first]))
         step = (first, last, level, must > 0)
-        if may and steps and steps[-1][1:] == (first, *step[2:]):
-            steps[-1] = (steps[-1][0], *step[1:])
-        elif may:
-            steps.append(step)
+        if not may and not must:
+            continue
+        if steps and steps[-1][1:] == (first, *step[2:]):
+            step = (steps.pop()[0], *step[1:])
+        steps.append(step)
     return steps
 
 
@@ -244,7 +276,7 @@ def limit_steps(plan, place, first, last):
 
 
 def against_limits(steps, limits):
-    """The steps of a level cut where the limit changes: (first day, day after, level, whether a task is sure, limit)."""
+    """The steps of a level cut where the limit changes: (first day, day after, level, whether it is checked, limit)."""
     for first, last, level, checked in steps:
         for begins, ends, limit in limits:
             if max(first, begins) < min(last, ends):
@@ -265,7 +297,7 @@ def make_lanes(plan, top, right):
     for place in range(len(plan.resources)):
         tasks = tuple(k for k, task in enumerate(plan.tasks) if task.on(place))
         heading = wrap(limits_told(plan, place), right - heading_left(plan.resources[place]), 12, "  ·  ")
-        lanes.append(Lane(place, tasks, top, tuple(heading), limit_steps(plan, place, *days)))
+        lanes.append(Lane(place, tasks, top, tuple(heading), limit_steps(plan, place, *days), plan.resources[place].held()))
         top = lanes[-1].bottom() + LANE_GAP
     listed = (1 << len(plan.resources)) - 1
     lost = tuple(k for k, task in enumerate(plan.tasks) if not task.places or task.places & ~listed)
@@ -275,9 +307,10 @@ def make_lanes(plan, top, right):
 
 
 def limits_told(plan, place):
-    """A resource's place and its limits, from which day which: the pieces of its heading."""
-    own = f"{sense_words(plan.sense)} {plan.resources[place].limit}"
-    return [f"place {place}", own, *(f"{band.limit} from day {band.first}" for _, band in plan.bands_of(place))]
+    """A resource's place, its kind if it is held, and its limits, from which day which: the pieces of its heading."""
+    resource = plan.resources[place]
+    own = [f"place {place}", *(["held"] if resource.held() else []), f"{sense_words(plan.sense)} {resource.limit}"]
+    return [*own, *(f"{band.limit} from day {band.first}" for _, band in plan.bands_of(place))]
 
 
 def heading_left(resource):
@@ -428,7 +461,8 @@ def row(panel, plan, lane, task_place, y):
 def strip(panels, lane, plan):
     """The strips of the level below a lane's rows, on one scale in all panels."""
     known = plan.sense < len(SENSES)
-    steps = [level_steps(panel.tasks, lane.place, plan.sense) if known else [] for panel in panels]
+    spans = [held_span(panel.tasks, lane.place) if lane.held else None for panel in panels]
+    steps = [level_steps(panel.tasks, lane.place, plan.sense, span) if known else [] for panel, span in zip(panels, spans)]
     levels = [0] + [step[2] for found in (*steps, lane.limits) for step in found]
     low, high = min(levels), max(levels)
     if low == high:
@@ -443,8 +477,10 @@ def strip(panels, lane, plan):
 def strip_half(panel, steps, lane, sense, y):
     """One panel's strip: the best level left, and the limit of each day."""
     scale, parts = panel.scale, []
+    bare = bare_spans(panel.tasks, lane.place) if lane.held else []
     for first, last, level, checked, limit in against_limits(steps, lane.limits):
         wrong = checked and breaks(level, limit, sense)
+        parts += [bare_ground(scale, days, lane, wrong) for days in within(bare, first, last)]
         fill = LEVEL_WRONG if wrong else LEVEL_SURE if checked else LEVEL
         top, low = min(y(level), y(0)), max(y(level), y(0))
         x, wide = scale.x(first), scale.x(last) - scale.x(first)
@@ -454,6 +490,33 @@ def strip_half(panel, steps, lane, sense, y):
     parts.append(limit_line([(scale.x(first), scale.x(last), y(limit)) for first, last, limit in lane.limits]))
     parts += limit_labels(scale, lane, y)
     return element("g", "".join(parts), class_="level")
+
+
+def within(spans, first, last):
+    """What of the spans lies between two days."""
+    cut = [(max(first, begins), min(last, ends)) for begins, ends in spans]
+    return [span for span in cut if span[0] < span[1]]
+
+
+def bare_ground(scale, span, lane, wrong):
+    """The ground of days that are checked though no task is sure there; the level itself may be 0 then, which has no height."""
+    x, top = scale.x(span[0]), lane.strip_top()
+    return box(x, top, scale.x(span[1]) - x, STRIP, class_="bare", fill=BARE_WRONG if wrong else BARE)
+
+
+def held_row(panel, lane):
+    """The days on which a held resource is checked whatever is chosen."""
+    span, y = held_span(panel.tasks, lane.place), lane.held_top()
+    if not span:
+        return text(panel.scale.left + 10, y + 12, "no day is sure to be held", 11, MUTED, font_style="italic")
+    title = element("title", escape(f"held: days {span[0]} to {span[1] - 1} are checked, whatever is chosen"))
+    return element("g", title + held_bar(panel.scale, span, bare_spans(panel.tasks, lane.place), y + 4), class_="held")
+
+
+def held_bar(scale, span, bare, y):
+    """The bar of held days, light on the bare ones."""
+    light = [bar(scale, days, y, 8, fill=BARE, stroke=INK, stroke_width=1) for days in bare]
+    return bar(scale, span, y, 8, fill=INK) + "".join(light)
 
 
 def limit_line(steps):
@@ -492,6 +555,9 @@ def lane_svg(panels, lane, plan, answer):
     if lane.place is not None and lane.tasks:
         if lane.numbered():
             parts.append(text(MARGIN, lane.limits_top() + 11, "limit", 11, ALARM))
+        if lane.held:
+            parts.append(text(MARGIN, lane.held_top() + 12, "held", 11, INK))
+            parts += [held_row(panel, lane) for panel in panels]
         parts.append(text(MARGIN, lane.strip_top() + STRIP / 2 + 4, "level", 11, MUTED))
         parts.append(strip(panels, lane, plan))
     return element("g", "".join(parts), class_="lane")
@@ -560,6 +626,7 @@ def legend_entries(plan, settled):
     """The signs of the legend, each with its words."""
     colour = TASK_COLOURS[0]
     best = {1: "highest level still possible", 0: "lowest level still possible"}
+    checked = "checked" if plan.held() else "a task is sure"
     entries = [
         (lambda x, y: box(x, y, 26, BAR, rx=2, fill=tint(colour)), "possible days"),
         (lambda x, y: box(x, y, 26, BAR, rx=2, fill=colour), "sure days"),
@@ -569,7 +636,9 @@ def legend_entries(plan, settled):
     if any(task.origin.low >= task.end.high and not twisted(task) for task in plan.tasks):
         entries.append((lambda x, y: no_day(x + 13, y, colour), "covers no day"))
     if plan.sense < len(SENSES):
-        entries.append((level_sign, f"{best[plan.sense]} (darker: a task is sure)"))
+        entries.append((level_sign, f"{best[plan.sense]} (darker: {checked})"))
+    if plan.held():
+        entries.append((held_sign, "held days: all are checked (light: no task is sure)"))
     if plan.bands:
         entries.append((lambda x, y: limit_line([(x, x + 13, y + 11), (x + 13, x + 26, y + 3)]), "limit of the day"))
     else:
@@ -582,6 +651,11 @@ def level_sign(x, y):
     light = box(x, y + 3, 13, BAR - 3, fill=LEVEL)
     dark = box(x + 13, y + 3, 13, BAR - 3, fill=LEVEL_SURE)
     return light + dark + line(x, y + 3, x + 26, y + 3, INK, stroke_width=1.6)
+
+
+def held_sign(x, y):
+    """The legend's sign of held days."""
+    return held_bar(Scale(0, DAYS, x), (0, 26), [(8, 18)], y + 3)
 
 
 def legend(plan, settled, y, right):

@@ -127,24 +127,35 @@ def table_line(row, widths, right):
 
 def headline(plan):
     """The plan's sense and counts in a few words."""
-    counts = [count(len(plan.resources), "resource"), count(len(plan.tasks), "task")]
+    counts = [resource_count(plan), count(len(plan.tasks), "task")]
     if plan.bands:
         counts.insert(1, count(len(plan.bands), "band"))
     return ", ".join([sense_words(plan.sense), *counts])
 
 
+def resource_count(plan):
+    """How many resources there are, and how many of them are held if any is."""
+    held = f" ({len(plan.held())} held)" if plan.held() else ""
+    return count(len(plan.resources), "resource") + held
+
+
 def resource_table(plan):
-    """The resources, each with its limit and, below it, the limits that its bands set."""
-    heads = ["place", "resource", f"limit ({sense_words(plan.sense)})"]
-    if not plan.bands:
-        return table(heads, [[str(k), str(r.identifier), str(r.limit)] for k, r in enumerate(plan.resources)], {0, 1, 2})
+    """The resources, each with its kind and its limit and, below it, the limits that its bands set."""
+    heads = ["place", "resource", "kind", f"limit ({sense_words(plan.sense)})", "from day", "band"]
     rows = []
     for place, resource in enumerate(plan.resources):
-        rows.append([str(place), str(resource.identifier), str(resource.limit), "", ""])
-        rows += [["", "", *band_cells(*found)] for found in plan.bands_of(place)]
+        rows.append([str(place), str(resource.identifier), resource.kind, str(resource.limit), "", ""])
+        rows += [["", "", "", *band_cells(*found)] for found in plan.bands_of(place)]
     lost = [(k, band) for k, band in enumerate(plan.bands) if band.place >= len(plan.resources)]
-    rows += [[str(band.place), "none", *band_cells(k, band)] for k, band in lost]
-    return table([*heads, "from day", "band"], rows, {0, 1, 2, 3, 4})
+    rows += [[str(band.place), "none", "", *band_cells(k, band)] for k, band in lost]
+    shown = columns_needed(plan)
+    heads, *rows = [[row[k] for k in shown] for row in [heads, *rows]]
+    return table(heads, rows, set(range(len(shown))))
+
+
+def columns_needed(plan):
+    """The columns that a plan's resources need: kinds if one is held, first days and places of bands if there are any."""
+    return [0, 1, *([2] if plan.held() else []), 3, *([4, 5] if plan.bands else [])]
 
 
 def band_cells(place, band):

@@ -8,7 +8,8 @@ PLAN_RECORD = struct.Struct("<2sBBH")
 RESOURCE_RECORD = struct.Struct("<2sii")
 BAND_RECORD = struct.Struct("<2sHii")
 TASK_RECORD = struct.Struct("<2sH8i")
-MARKS = {PLAN_RECORD: b"PL", RESOURCE_RECORD: b"RS", BAND_RECORD: b"LB", TASK_RECORD: b"TK"}
+KINDS = {"plain": b"RS", "held": b"RH"}  # the kinds of resources, each with its mark
+MARKS = {PLAN_RECORD: (b"PL",), RESOURCE_RECORD: tuple(KINDS.values()), BAND_RECORD: (b"LB",), TASK_RECORD: (b"TK",)}
 
 MOST_RESOURCES = 255
 MOST_TASKS = 65535
@@ -39,10 +40,15 @@ class Range:
 
 @dataclass(frozen=True)
 class Resource:
-    """A resource: its identifier, and its limit on the days before its first band."""
+    """A resource: its identifier, its limit on the days before its first band, and its kind."""
 
     identifier: int
     limit: int
+    kind: str = "plain"
+
+    def held(self):
+        """Whether its limit has to hold between tasks too."""
+        return self.kind == "held"
 
 
 @dataclass(frozen=True)
@@ -78,6 +84,10 @@ class Plan:
     bands: tuple
     tasks: tuple
 
+    def held(self):
+        """The places of the held resources."""
+        return [k for k, resource in enumerate(self.resources) if resource.held()]
+
     def bands_of(self, place):
         """The bands of the resource at this place, each with its own place in the list."""
         return [(k, band) for k, band in enumerate(self.bands) if band.place == place]
@@ -90,7 +100,7 @@ def to_bytes(plan):
     """The plan file of a plan."""
     parts = [PLAN_RECORD.pack(b"PL", plan.sense, len(plan.resources), len(plan.tasks))]
     for resource in plan.resources:
-        parts.append(RESOURCE_RECORD.pack(b"RS", resource.identifier, resource.limit))
+        parts.append(RESOURCE_RECORD.pack(KINDS[resource.kind], resource.identifier, resource.limit))
     for band in plan.bands:
         parts.append(BAND_RECORD.pack(b"LB", band.place, band.first, band.limit))
     for task in plan.tasks:
@@ -107,19 +117,20 @@ def ends_of(task, name):
 
 def from_bytes(data, name):
     """The plan in a plan file; an error if the file hasn't the format's shape."""
-    sense, resource_count, task_count = take(data, 0, PLAN_RECORD, name)
+    _, sense, resource_count, task_count = take(data, 0, PLAN_RECORD, name)
     place = PLAN_RECORD.size
     resources = []
     for _ in range(resource_count):
-        resources.append(Resource(*take(data, place, RESOURCE_RECORD, name)))
+        mark, identifier, limit = take(data, place, RESOURCE_RECORD, name)
+        resources.append(Resource(identifier, limit, kind_of(mark)))
         place += RESOURCE_RECORD.size
     bands = []
-    while data[place : place + 2] == MARKS[BAND_RECORD]:  # no count says how many: they last as long as their marks
-        bands.append(Band(*take(data, place, BAND_RECORD, name)))
+    while data[place : place + 2] in MARKS[BAND_RECORD]:  # no count says how many: they last as long as their marks
+        bands.append(Band(*take(data, place, BAND_RECORD, name)[1:]))
         place += BAND_RECORD.size
     tasks = []
     for _ in range(task_count):
-        tasks.append(task_from_numbers(take(data, place, TASK_RECORD, name)))
+        tasks.append(task_from_numbers(take(data, place, TASK_RECORD, name)[1:]))
         place += TASK_RECORD.size
     if place < len(data):
         left = count(len(data) - place, "byte")
@@ -128,19 +139,25 @@ def from_bytes(data, name):
 
 
 def take(data, place, record, name):
-    """The values of the record that is due at this byte, without its mark."""
-    mark = MARKS[record]
+    """The mark and the values of the record that is due at this byte."""
     left = len(data) - place
     found = bytes(data[place : place + 2])
-    if left >= 2 and found != mark:
+    due = " or ".join(mark.decode() for mark in MARKS[record])
+    if left >= 2 and found not in MARKS[record]:
         shown = found.decode("ascii") if found.isalnum() else found.hex(" ")
-        raise PlanError(f"{name}: byte {place}: the mark {mark.decode()} is due, found {shown}")
+        raise PlanError(f"{name}: byte {place}: the mark {due} is due, found {shown}")
     if left < record.size:
+        cut = found.decode() if left >= 2 else due
         raise PlanError(
-            f"{name}: byte {place}: cut short, {'an' if mark[:1] in b'LR' else 'a'} {mark.decode()} record takes "
+            f"{name}: byte {place}: cut short, {'an' if cut[0] in 'LR' else 'a'} {cut} record takes "
             f"{record.size} bytes and {left} are left"
         )
-    return record.unpack_from(data, place)[1:]
+    return record.unpack_from(data, place)
+
+
+def kind_of(mark):
+    """The kind of the resources that have this mark."""
+    return next(kind for kind, own in KINDS.items() if own == mark)
 
 
 def task_from_numbers(numbers):
@@ -167,8 +184,8 @@ def sense_words(sense):
 
 
 def resource_words(resource):
-    """The line of a resource."""
-    return f"resource {resource.identifier} {resource.limit}"
+    """The line of a resource; a plain one is not called so."""
+    return f"resource {resource.identifier} {resource.limit}" + (" held" if resource.held() else "")
 
 
 def band_words(band):
@@ -248,12 +265,13 @@ class WordsReader:
         """Takes a resource's line."""
         if self.tasks:
             raise ValueError("a resource after a task; all resources come first")
-        if len(words) != 3:
-            raise ValueError("a resource is written 'resource IDENTIFIER LIMIT'")
+        if len(words) not in (3, 4):
+            raise ValueError("a resource is written 'resource IDENTIFIER LIMIT', a held one 'resource IDENTIFIER LIMIT held'")
         if len(self.resources) == MOST_RESOURCES:
             raise ValueError(f"resource {MOST_RESOURCES + 1}: the file's count ends at {MOST_RESOURCES}")
         identifier = read_number(words[1], "the identifier")
-        self.resources.append(Resource(identifier, read_number(words[2], "the limit")))
+        limit = read_number(words[2], "the limit")
+        self.resources.append(Resource(identifier, limit, *map(read_kind, words[3:])))
 
     def take_band(self, words):
         """Takes a band's line; it may stand right below its resource, since the file has all bands after all resources anyway."""
@@ -280,6 +298,13 @@ def read_sense(words):
     if words[0] == "sense" and len(words) == 2:
         return read_number(words[1], "the sense", 0, 255, "1 byte")
     raise ValueError(f"'{line}' is not understood; the sense is 'at least' or 'at most'")
+
+
+def read_kind(word):
+    """A resource's kind; 'plain' may be said, though it need not be."""
+    if word not in KINDS:
+        raise ValueError(f"'{word}' is not understood; the kind of a resource is 'plain' or 'held'")
+    return word
 
 
 def read_task(words):

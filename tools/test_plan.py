@@ -1,6 +1,7 @@
 #!/usr/bin/env python3
 # Tests of the command plan; run with: python3 tools/test_plan.py
 
+import itertools
 import os
 import random
 import stat
@@ -67,6 +68,21 @@ band 2 from -2 limit 6
 task on 0  origin 0  duration 9  end 9  height 3..4
 """
 
+# Case 9 with its second resource held
+HELD_WORDS = CASE9_WORDS.replace("resource 9 3", "resource 9 3 held")
+HELD_BYTES = CASE9_BYTES[:16] + b"RH" + CASE9_BYTES[18:]
+
+# Case 6, its days 3 and 4 bare, on a held resource; a plain one beside it
+BETWEEN_WORDS = """\
+at least
+resource 7 2 held
+resource 8 2
+task on 0  origin 1  duration 2  end 3  height 2
+task on 0  origin 5  duration 2  end 7  height 2
+task on 1  origin 1  duration 2  end 3  height 2
+task on 1  origin 5  duration 2  end 7  height 2
+"""
+
 CASE9_ANSWER = "settled 3\n0 1 1 2 2 2 3 4 0 1\n1 1 1 2 2 2 3 4 3 4\n"
 
 
@@ -83,6 +99,21 @@ BAD_BANDS = [
     ("band 0 from 2147483648 limit 2", "the band's first day: 2147483648 does not fit 4 bytes"),
     ("band 0 from 1 limit two", "the band's limit: 'two' is not a whole number"),
     ("band 0 from 1 limit -2147483649", "the band's limit: -2147483649 does not fit 4 bytes"),
+]
+
+
+RESOURCE_FORM = "a resource is written 'resource IDENTIFIER LIMIT', a held one 'resource IDENTIFIER LIMIT held'"
+
+BAD_KINDS = [
+    *((f"resource 1 2 {word}", f"'{word}' is not understood; the kind of a resource is 'plain' or 'held'") for word in (
+        "hold", "Held", "HELD", "holds", "held,", "heldheld", "'held'", "Plain", "RS", "RH", "3", "-", "limit",
+    )),
+    *((line, RESOURCE_FORM) for line in ("resource", "resource 1", "resource held", "resource 1 2 held held", "resource 1 2 held 3")),
+    ("resource held 1 2", "the identifier: 'held' is not a whole number"),
+    ("resource 1 held", "the limit: 'held' is not a whole number"),
+    ("resource 1 held 2", "the limit: 'held' is not a whole number"),
+    ("held 1 2", "'held' is not understood; a line begins with 'at least', 'at most', 'resource', 'band' or 'task'"),
+    ("band 0 from 1 limit 2 held", "a band is written 'band PLACE from DAY limit LIMIT'"),
 ]
 
 
@@ -118,7 +149,10 @@ def random_range(dice):
 
 def random_plan(dice):
     """A plan of the format's shape, mostly a bad one."""
-    resources = [Resource(random_number(dice), random_number(dice)) for _ in range(dice.choice([0, 1, 2, 5, 255]))]
+    resources = [
+        Resource(random_number(dice), random_number(dice), dice.choice(["plain", "held"]))
+        for _ in range(dice.choice([0, 1, 2, 5, 255]))
+    ]
     bands = [
         Band(dice.choice([0, 1, dice.randrange(65536)]), random_number(dice), random_number(dice))
         for _ in range(dice.choice([0, 1, 3, 64, 65, 300]))
@@ -132,7 +166,7 @@ def random_plan(dice):
 
 def good_plan(dice):
     """A small plan without low above high, and a narrower list of its tasks."""
-    resources = tuple(Resource(k, dice.randint(-4, 4)) for k in range(dice.randint(1, 4)))
+    resources = tuple(Resource(k, dice.randint(-4, 4), dice.choice(["plain", "held"])) for k in range(dice.randint(1, 4)))
     starts = sorted({(dice.randrange(len(resources)), dice.randint(-12, 12)) for _ in range(dice.randint(0, 5))})
     bands = tuple(Band(place, first, dice.randint(-4, 4)) for place, first in starts)
     old, new = [], []
@@ -159,11 +193,42 @@ class Words(unittest.TestCase):
         self.assertEqual(planwords.to_bytes(words_plan(BANDS_WORDS)), BANDS_BYTES)
         self.assertEqual(planwords.to_words(planwords.from_bytes(BANDS_BYTES, "file")), BANDS_WORDS)
 
+    def test_bytes_of_kinds(self):
+        self.assertEqual(HELD_BYTES[6:26], bytes.fromhex("5253 07000000 04000000 5248 09000000 03000000"))
+        self.assertEqual(planwords.to_bytes(words_plan(HELD_WORDS)), HELD_BYTES)
+        self.assertEqual(planwords.to_words(planwords.from_bytes(HELD_BYTES, "file")), HELD_WORDS)
+        self.assertEqual([resource.kind for resource in words_plan(HELD_WORDS).resources], ["plain", "held"])
+
+    def test_every_mixture_of_kinds(self):
+        marks = {"": b"RS", " held": b"RH"}
+        for mixture in itertools.product(marks, repeat=4):
+            text = "at most\n" + "".join(f"resource {k} 2{word}\n" for k, word in enumerate(mixture)) + "band 3 from 1 limit 4\n"
+            data = planwords.to_bytes(words_plan(text))
+            self.assertEqual([data[6 + 10 * k : 8 + 10 * k] for k in range(4)], [marks[word] for word in mixture])
+            self.assertEqual(planwords.to_words(planwords.from_bytes(data, "file")), text)
+
+    def test_plain_may_be_said(self):
+        said = CASE9_WORDS.replace("resource 7 4", "resource 7 4 plain").replace("resource 9 3", "  resource 9 3   plain # so")
+        self.assertEqual(planwords.to_bytes(words_plan(said)), CASE9_BYTES)
+        self.assertEqual(planwords.to_words(words_plan(said)), CASE9_WORDS)
+
+    def test_bands_of_held_resources(self):
+        text = BANDS_WORDS.replace("resource 7 4\n", "resource 7 4 held\n")
+        self.assertEqual(planwords.to_bytes(words_plan(text)), BANDS_BYTES[:6] + b"RH" + BANDS_BYTES[8:])
+        self.assertEqual(planwords.to_words(words_plan(text)), text)
+
+    def test_kinds_that_are_not_understood(self):
+        for line, problem in BAD_KINDS:
+            with self.subTest(line=line), self.assertRaises(PlanError) as caught:
+                words_plan(f"at least\nresource 7 4\n{line}\n")
+            self.assertEqual(str(caught.exception), f"words:3: {problem}")
+
     def test_longest_file(self):
         task = "task on 0 origin 1 duration 1 end 2 height 0\n"
         bands = "".join(f"band 0 from {k} limit 1\n" for k in range(64))
         text = "at least\n" + "resource 1 1\n" * 16 + bands + task * 256
         self.assertEqual(len(planwords.to_bytes(words_plan(text))), 10150)
+        self.assertEqual(len(planwords.to_bytes(words_plan(text.replace("resource 1 1", "resource 1 1 held")))), 10150)
 
     def test_bands_without_tasks(self):
         plan = words_plan("at most\nresource 1 2\nband 0 from 3 limit 4\n")
@@ -268,6 +333,20 @@ class Words(unittest.TestCase):
             with self.subTest(data=data), self.assertRaisesRegex(PlanError, f"^file: byte {place}: "):
                 planwords.from_bytes(data, "file")
 
+    def test_shape_errors_of_resources(self):
+        for data, problem in [
+            (HELD_BYTES[:6] + b"RT" + HELD_BYTES[8:], "byte 6: the mark RS or RH is due, found RT"),
+            (HELD_BYTES[:6] + b"rh" + HELD_BYTES[8:], "byte 6: the mark RS or RH is due, found rh"),
+            (HELD_BYTES[:6] + HELD_BYTES[26:], "byte 6: the mark RS or RH is due, found TK"),
+            (HELD_BYTES[:26] + HELD_BYTES[16:], "byte 26: the mark TK is due, found RH"),
+            (HELD_BYTES[:7], "byte 6: cut short, an RS or RH record takes 10 bytes and 1 are left"),
+            (HELD_BYTES[:15], "byte 6: cut short, an RS record takes 10 bytes and 9 are left"),
+            (HELD_BYTES[:18], "byte 16: cut short, an RH record takes 10 bytes and 2 are left"),
+        ]:
+            with self.subTest(problem=problem), self.assertRaises(PlanError) as caught:
+                planwords.from_bytes(data, "file")
+            self.assertEqual(str(caught.exception), f"file: {problem}")
+
 
 class Answers(unittest.TestCase):
     """The planner's output and the tables."""
@@ -293,6 +372,9 @@ class Answers(unittest.TestCase):
         plan = words_plan(CASE9_WORDS)
         self.assertIn("resource 9 3", plansettle.refused_text(plan, answer_of("refused 3 1\n"), "x"))
         self.assertIn("task on 0,1 ", plansettle.refused_text(plan, answer_of("refused 5 1\n"), "x"))
+        text = plansettle.refused_text(words_plan(HELD_WORDS), answer_of("refused 3 1\n"), "x")
+        self.assertTrue(text.startswith("x: at least, 2 resources (1 held), 2 tasks\n"), text)
+        self.assertTrue(text.endswith("\n  resource 9 3 held\n"), text)
 
     def test_refusal_13_names_the_band(self):
         plan = words_plan(SEASON_WORDS.replace("from 7", "from 4"))
@@ -345,6 +427,33 @@ class Answers(unittest.TestCase):
             "-----  --------  ----------------",
             "    0         7                 4",
             "    1         9                 3",
+        ])
+
+    def test_table_of_kinds(self):
+        plan = words_plan(HELD_WORDS)
+        self.assertEqual(plansettle.resource_table(plan), [
+            "place  resource   kind  limit (at least)",
+            "-----  --------  -----  ----------------",
+            "    0         7  plain                 4",
+            "    1         9   held                 3",
+        ])
+        answer = plansettle.Answer(passes=1, tasks=plan.tasks)
+        for text in (plansettle.show_text(plan, "case9"), plansettle.settled_text(plan, answer, "case9")):
+            self.assertTrue(text.startswith("case9: at least, 2 resources (1 held), 2 tasks\n"), text)
+            self.assertIn("".join(line + "\n" for line in plansettle.resource_table(plan)), text)
+
+    def test_table_of_kinds_and_bands(self):
+        plan = words_plan(SEASON_WORDS.replace("resource 7 2", "resource 7 2 held").replace("band 2", "band 3"))
+        self.assertEqual(plansettle.headline(plan), "at least, 3 resources (1 held), 3 bands, 1 task")
+        self.assertEqual(plansettle.resource_table(plan), [
+            "place  resource   kind  limit (at least)  from day  band",
+            "-----  --------  -----  ----------------  --------  ----",
+            "    0         7   held                 2",
+            "                                       5         4     0",
+            "                                       1         7     1",
+            "    1         8  plain                 0",
+            "    2         9  plain                 3",
+            "    3      none                        6        -2     2",
         ])
 
     def test_output_that_is_not_understood(self):
@@ -422,6 +531,109 @@ class Drawings(unittest.TestCase):
             days = list(plandraw.ticks(first, last))
             self.assertTrue(1 <= len(days) <= 32, (first, last, days))
             self.assertTrue(all(first <= day < last for day in days))
+
+    def test_held_span(self):
+        task = "task on {} origin {} duration 0..9 end {} height 1\n"
+        for tasks, span, bare in [
+            ([], None, []),
+            # one task alone: the days on which it is sure
+            ([(0, "1..2", "5..6")], (2, 5), []),
+            ([(0, "1..5", "5..6")], None, []),
+            # two tasks: the days between them too; of the third pair neither is sure on any day
+            ([(0, "1", "3"), (0, "5", "7")], (1, 7), [(3, 5)]),
+            ([(0, "1", "7"), (0, "3", "4")], (1, 7), []),
+            ([(0, "1..4", "3..6"), (0, "5..9", "8..11")], (4, 8), [(4, 8)]),
+            # tasks that cover no day take part in both ends
+            ([(0, "0", "0"), (0, "3", "5"), (0, "9", "9")], (0, 9), [(0, 3), (5, 9)]),
+            ([(0, "4", "4")], None, []),
+            ([(0, "4", "4"), (0, "4..6", "6..7")], (4, 6), [(4, 6)]),
+            # tasks that may be elsewhere, or are, take part in none; nor do those with their low above their high
+            ([(0, "1", "3"), ("0,1", "5", "7"), (1, "8", "9")], (1, 3), []),
+            ([("0,1", "1", "3"), (1, "5", "7")], None, []),
+            ([(0, "1", "3"), (0, "9..5", "9")], (1, 3), []),
+        ]:
+            with self.subTest(tasks=tasks):
+                plan = words_plan("at least\nresource 1 1 held\nresource 2 1\n" + "".join(task.format(*parts) for parts in tasks))
+                self.assertEqual(plandraw.held_span(plan.tasks, 0), span)
+                self.assertEqual(plandraw.bare_spans(plan.tasks, 0), bare)
+
+    def test_held_days_are_those_of_the_rule(self):
+        dice = random.Random(5)
+        for _ in range(200):
+            plan, _ = good_plan(dice)
+            for place in range(len(plan.resources)):
+                span = plandraw.held_span(plan.tasks, place)
+                days = {day for bounds in ([span] if span else []) for day in range(*bounds)}
+                bare = [day for bounds in plandraw.bare_spans(plan.tasks, place) for day in range(*bounds)]
+                alone = [task for task in plan.tasks if task.places == 1 << place]
+                for day in range(-12, 32):
+                    begun, ends = any(task.origin.high <= day for task in alone), any(task.end.low > day for task in alone)
+                    sure = any(task.origin.high <= day < task.end.low for task in alone)
+                    self.assertEqual((day in days, bare.count(day)), (begun and ends, begun and ends and not sure))
+
+    def test_levels_of_held_days(self):
+        plan = words_plan(BETWEEN_WORDS)
+        days = plandraw.held_span(plan.tasks, 0)
+        self.assertEqual(plandraw.level_steps(plan.tasks, 0, 1, days), [(1, 3, 2, True), (3, 5, 0, True), (5, 7, 2, True)])
+        self.assertEqual(plandraw.level_steps(plan.tasks, 0, 1), [(1, 3, 2, True), (5, 7, 2, True)])
+        # A task that may be there lifts the level of a bare day, which is checked then too.
+        more = words_plan(BETWEEN_WORDS + "task on 0,1  origin 2..7  duration 2  end 4..9  height 3\n")
+        self.assertEqual(plandraw.level_steps(more.tasks, 0, 1, days), [
+            (1, 2, 2, True), (2, 3, 5, True), (3, 5, 3, True), (5, 7, 5, True), (7, 9, 3, False),
+        ])
+
+    def test_held_days_are_drawn(self):
+        plan = words_plan(BETWEEN_WORDS)
+        root = self.drawn(plan, answer_of("refused 7 0\n"))
+        held = [found for found in root.iter() if found.get("class") == "held"]
+        # Days 0 to 7 are drawn, 55 wide each; the plain resource with the same tasks has no such bar.
+        self.assertEqual(len(held), 1)
+        left = plandraw.MARGIN + plandraw.LABELS
+        bars = [(float(found.get("x")), float(found.get("width"))) for found in held[0] if found.tag.endswith("rect")]
+        self.assertEqual(bars, [(left + 55, 55 * 6), (left + 55 * 3, 55 * 2)])
+        self.assertEqual(held[0][0].text, "held: days 1 to 6 are checked, whatever is chosen")
+        # Nothing is there on the bare days, and 2 are due.
+        bare = [found for found in root.iter() if found.get("class") == "bare"]
+        self.assertEqual([(float(found.get("x")), float(found.get("width"))) for found in bare], [(left + 55 * 3, 55 * 2)])
+        self.assertEqual(bare[0].get("fill"), plandraw.BARE_WRONG)
+        texts = [found.text for found in root.iter()]
+        for words in ("place 0  ·  held  ·  at least 2", "place 1  ·  at least 2", "held"):
+            self.assertEqual(texts.count(words), 1)
+
+    def test_held_days_that_are_enough(self):
+        plan = words_plan(BETWEEN_WORDS.replace("resource 7 2", "resource 7 -1"))
+        root = self.drawn(plan, plansettle.Answer(passes=1, tasks=plan.tasks))
+        bare = [found.get("fill") for found in root.iter() if found.get("class") == "bare"]
+        self.assertEqual(bare, [plandraw.BARE] * 2)
+
+    def test_ground_of_bare_days_changes_with_the_limit(self):
+        plan = words_plan(BETWEEN_WORDS.replace("resource 8", "band 0 from 4 limit 0\nresource 8"))
+        root = self.drawn(plan, answer_of("refused 7 0\n"))
+        bare = [(found.get("fill"), float(found.get("width"))) for found in root.iter() if found.get("class") == "bare"]
+        self.assertEqual(bare, [(plandraw.BARE_WRONG, 55), (plandraw.BARE, 55)])
+
+    def test_held_resource_with_no_sure_day(self):
+        plan = words_plan(BETWEEN_WORDS.replace("task on 0", "task on 0,1"))
+        counts, texts = self.bars(plan, plansettle.Answer(passes=1, tasks=plan.tasks))
+        self.assertEqual((counts.get("held", 0), texts.count("no day is sure to be held")), (0, 2))
+        # Where no task may stand there is no row for them either.
+        counts, texts = self.bars(words_plan("at least\nresource 1 1 held\n"), answer_of("settled 1\n"))
+        self.assertIn("place 0  ·  held  ·  at least 1", texts)
+        self.assertNotIn("no day is sure to be held", texts)
+
+    def test_legend_of_held_days(self):
+        held, best = "held days: all are checked (light: no task is sure)", "highest level still possible (darker: {})"
+        for text, has in ((BETWEEN_WORDS, True), (BETWEEN_WORDS.replace(" held", ""), False)):
+            plan = words_plan(text)
+            _, texts = self.bars(plan, plansettle.Answer(passes=1, tasks=plan.tasks))
+            told = [words in texts for words in (held, best.format("checked"), best.format("a task is sure"))]
+            self.assertEqual(told, [has, has, not has])
+
+    def test_plain_plans_have_no_sign_of_held_days(self):
+        for text, answer in ((CASE9_WORDS, CASE9_ANSWER), (SEASON_WORDS, "refused 7 0\n")):
+            drawn = plandraw.drawing(words_plan(text), answer_of(answer), "plain")
+            for sign in ("held", "bare", plandraw.BARE, plandraw.BARE_WRONG):
+                self.assertNotIn(sign, drawn)
 
     def test_levels(self):
         plan = words_plan("at most\nresource 1 1\ntask on 0 origin 1..2 duration 2 end 3..4 height 1\n")
@@ -526,6 +738,28 @@ class Command(unittest.TestCase):
         self.assertEqual((status, out), (1, b""))
         self.assertEqual(said, "standard input:5: a band is written 'band PLACE from DAY limit LIMIT'\n")
 
+    def test_pack_and_unpack_kinds(self):
+        self.assertEqual(run("pack", data=HELD_WORDS.encode()), (0, HELD_BYTES, ""))
+        self.assertEqual(run("unpack", data=HELD_BYTES), (0, HELD_WORDS.encode(), ""))
+        status, out, said = run("pack", data=HELD_WORDS.replace("held", "holding").encode())
+        self.assertEqual((status, out), (1, b""))
+        self.assertEqual(said, "standard input:3: 'holding' is not understood; the kind of a resource is 'plain' or 'held'\n")
+
+    def test_show_settle_and_draw_a_held_resource(self):
+        self.plan.write_bytes(HELD_BYTES)
+        planner = self.stand_in(CASE9_ANSWER)
+        for arguments in (("show", self.plan), ("settle", self.plan, "--planner", planner)):
+            status, out, _ = run(*arguments)
+            self.assertEqual(status, 0)
+            self.assertIn(b": at least, 2 resources (1 held), 2 tasks\n", out)
+            self.assertIn(b"\n    1         9   held                 3\n", out)
+        status, out, _ = run("draw", self.plan, "--planner", planner)
+        self.assertEqual((status, "place 1  ·  held  ·  at least 3".encode() in out), (0, True))
+
+    def test_help_says_how_a_resource_is_held(self):
+        _, out, _ = run("help")
+        self.assertIn(b"\n  resource 9 3 held ", out)
+
     def test_settle_a_refused_band(self):
         self.plan.write_bytes(BANDS_BYTES)
         status, out, _ = run("settle", self.plan, "--planner", self.stand_in("refused 13 2\n"))
@@ -581,6 +815,14 @@ class Command(unittest.TestCase):
     def test_example_case_9(self):
         self.assertEqual(run("pack", EXAMPLES / "case9.txt"), (0, CASE9_BYTES, ""))
         self.assertEqual((EXAMPLES / "case9.settled").read_text(), CASE9_ANSWER)
+
+    def test_example_shared_feeder(self):
+        plan = words_plan((EXAMPLES / "shared-feeder.txt").read_text())
+        answer = answer_of((EXAMPLES / "shared-feeder.settled").read_text())
+        # Days 3 to 16 are held, by turbine 1 and the sign-off; settling puts a job on every one of them.
+        for tasks, bare in ((plan.tasks, [(8, 11), (15, 17)]), (answer.tasks, [])):
+            self.assertEqual(plandraw.held_span(tasks, 0), (3, 17))
+            self.assertEqual(plandraw.bare_spans(tasks, 0), bare)
 
     def test_examples(self):
         for words in sorted(EXAMPLES.glob("*.txt")):

@@ -4,7 +4,7 @@ use crate::engine::{Answer, Call, Engine};
 use crate::expected::Expected;
 use crate::tally::{Kind, Tally};
 use second::random::Random;
-use second::{allowed, bound, file, words, Fault, Plan, Refusal};
+use second::{allowed, bound, file, words, Fault, Plan, Refusal, Resource};
 
 /// Bytes kept on either side of a lent buffer, to see that nothing beyond it is written.
 const MARGIN: usize = 16;
@@ -50,6 +50,7 @@ impl Comparison {
         let plan = file::read(file);
         self.tally.plans += 1;
         self.tally.banded += u64::from(plan.as_ref().is_ok_and(|plan| !plan.bands.is_empty()));
+        self.tally.held += u64::from(plan.as_ref().is_ok_and(has_held));
         let bound = self.bound(&plan);
         // What the calls that take an output leave: settling's first.
         let mut writing = Vec::new();
@@ -274,6 +275,11 @@ impl Comparison {
         }
         Ok(())
     }
+}
+
+/// Whether one of the plan's resources is held.
+fn has_held(plan: &Plan) -> bool {
+    plan.resources.iter().any(Resource::is_held)
 }
 
 /// Every call, settling within `most` passes among them; the resource step for every place, one beyond and two far beyond (of a damaged

@@ -73,6 +73,8 @@ pub struct Tally {
     pub plans: u64,
     /// Those of them that are read and have bands.
     pub banded: u64,
+    /// Those of them that are read and have held resources.
+    pub held: u64,
     kinds: [u64; LINES.len()],
     /// Settle's answers by refusal number; 0 is "settled".
     answers: [u64; ANSWERS],
@@ -102,6 +104,7 @@ impl Tally {
     pub fn add(&mut self, other: &Tally) {
         self.plans += other.plans;
         self.banded += other.banded;
+        self.held += other.held;
         let kinds = self.kinds.iter_mut().zip(&other.kinds);
         let answers = self.answers.iter_mut().zip(&other.answers);
         for (mine, theirs) in kinds.chain(answers) {
@@ -126,9 +129,10 @@ impl Tally {
         let total: u64 = self.kinds.iter().sum();
         let rate = |count: u64| (count as f64 / seconds) as u64;
         text += &format!(
-            "{} plans ({} with bands) in {seconds:.1} s: {} plans settled on both sides a second, {} comparisons a second\n",
+            "{} plans ({} with bands, {} with held resources) in {seconds:.1} s: {} plans settled on both sides a second, {} comparisons a second\n",
             self.plans,
             self.banded,
+            self.held,
             rate(self.plans),
             rate(total)
         );

@@ -1,5 +1,5 @@
-/* Settles case 9 of the page through the C boundary, by one call and pass by pass, then a plan that has none: its output buffer has to be
- * as it was.
+/* Settles case 9 of the page through the C boundary, by one call and pass by pass, case 6 on a plain and on a held resource, then a plan that
+ * has none: its output buffer has to be as it was.
  * Built and run by tests/40-embed; by hand: cc -Iinclude examples/embed/settle.c "$(tools/archive)" -o /tmp/embed && /tmp/embed, in the repository */
 #include <stdio.h>
 #include <string.h>
@@ -26,6 +26,13 @@ int main(void) {
     printf("case 9: refusal %u, %u passes; task 1 has set %d, height from %d\n", gristwaltz_refusal(answer), gristwaltz_passes(answer), out[64], out[90]);
     unsigned passes = settle_by_passes(file, length);
     printf("passes one by one: %u; %s\n", passes, memcmp(file, out, length) ? "other bytes" : "the same bytes as settling");
+
+    length = case_six(file, "RS");
+    answer = gristwaltz_settle(file, length, out, sizeof out);
+    printf("case 6, a plain resource: refusal %u, %u passes\n", gristwaltz_refusal(answer), gristwaltz_passes(answer));
+    length = case_six(file, "RH");
+    answer = gristwaltz_settle(file, length, out, sizeof out);
+    printf("case 6, a held one: refusal %u, place %u\n", gristwaltz_refusal(answer), gristwaltz_place(answer));
 
     length = without_plan(file);
     memset(out, 0xa5, sizeof out);

@@ -1,5 +1,5 @@
-// Settles case 9 of the page from Rust, by one call, pass by pass and in calls of at most two passes, then a plan that has none: its output
-// buffer has to be as it was.
+// Settles case 9 of the page from Rust, by one call, pass by pass and in calls of at most two passes, case 6 on a plain and on a held
+// resource, then a plan that has none: its output buffer has to be as it was.
 // Built and run by tests/40-embed; by hand: rustc examples/embed/settle.rs -C link-arg="$(tools/archive)" -o /tmp/embed && /tmp/embed, in the repository
 
 // What libgristwaltz.a exports; a byte slice is a pointer and a length.
@@ -51,12 +51,16 @@ mod engine {
     }
 }
 
-fn plan(sense: u8, resources: &[(i32, i32)], tasks: &[(u16, [i32; 8])]) -> Vec<u8> {
+/// The marks of a plain resource, and of a held one, whose limit has to hold between tasks too.
+const PLAIN: &[u8] = b"RS";
+const HELD: &[u8] = b"RH";
+
+fn plan(sense: u8, resources: &[(&[u8], i32, i32)], tasks: &[(u16, [i32; 8])]) -> Vec<u8> {
     let mut file = b"PL".to_vec();
     file.extend([sense, resources.len() as u8]);
     file.extend((tasks.len() as u16).to_le_bytes());
-    for (id, limit) in resources {
-        file.extend(b"RS");
+    for (mark, id, limit) in resources {
+        file.extend(*mark);
         file.extend(id.to_le_bytes());
         file.extend(limit.to_le_bytes());
     }
@@ -85,10 +89,10 @@ fn settle_by_passes(file: &mut Vec<u8>) -> engine::Answer {
 }
 
 fn main() {
-    let case_nine = plan(1, &[(7, 4), (9, 3)], &[(1, [1, 2, 2, 2, 3, 4, 0, 1]), (3, [0, 6, 2, 2, 2, 8, 0, 4])]);
+    let case_nine = plan(1, &[(PLAIN, 7, 4), (PLAIN, 9, 3)], &[(1, [1, 2, 2, 2, 3, 4, 0, 1]), (3, [0, 6, 2, 2, 2, 8, 0, 4])]);
     let mut out = vec![0; case_nine.len()];
     println!("case 9: {:?}", engine::settle(&case_nine, &mut out));
-    let settled = plan(1, &[(7, 4), (9, 3)], &[(1, [1, 2, 2, 2, 3, 4, 0, 1]), (1, [1, 2, 2, 2, 3, 4, 3, 4])]);
+    let settled = plan(1, &[(PLAIN, 7, 4), (PLAIN, 9, 3)], &[(1, [1, 2, 2, 2, 3, 4, 0, 1]), (1, [1, 2, 2, 2, 3, 4, 3, 4])]);
     println!("the settled plan is {}", if out == settled { "the page's" } else { "another" });
     let mut left = case_nine.clone();
     println!("case 9 by passes: {:?}", settle_by_passes(&mut left));
@@ -101,7 +105,13 @@ fn main() {
     println!("going on from there: {:?}", engine::settle_within(&left, 2, &mut out));
     println!("the plan that is left is {}", if out == settled { "the page's" } else { "another" });
 
-    let without_plan = plan(1, &[(7, 0)], &[(1, [5, 5, 1, 1, 6, 6, -1, -1])]);
+    // 2 are due, and two tasks have them on days 1 and 2 and on days 5 and 6; days 3 and 4 are bare
+    let case_six = |mark| plan(1, &[(mark, 7, 2)], &[(1, [1, 1, 2, 2, 3, 3, 2, 2]), (1, [5, 5, 2, 2, 7, 7, 2, 2])]);
+    let mut out = vec![0; 100];
+    println!("case 6, a plain resource: {:?}", engine::settle(&case_six(PLAIN), &mut out));
+    println!("case 6, a held one: {:?}", engine::settle(&case_six(HELD), &mut out));
+
+    let without_plan = plan(1, &[(PLAIN, 7, 0)], &[(1, [5, 5, 1, 1, 6, 6, -1, -1])]);
     let mut out = vec![0xa5; 100];
     println!("no plan: {:?}", engine::settle(&without_plan, &mut out));
     println!("the output is {}", if out == vec![0xa5; 100] { "as it was" } else { "changed" });

@@ -22,9 +22,9 @@ static size_t slow_pair(uint8_t *file) {
 static unsigned longest(const uint8_t *file) { return file[32] | file[33] << 8; }
 
 /* A plan file in one of two buffers; a call writes into the other, and then they change places. */
-struct held { uint8_t *file, *other; size_t length; };
+struct plan_file { uint8_t *file, *other; size_t length; };
 
-static void change_places(struct held *plan) {
+static void change_places(struct plan_file *plan) {
     uint8_t *written = plan->other;
     plan->other = plan->file;
     plan->file = written;
@@ -32,7 +32,7 @@ static void change_places(struct held *plan) {
 
 /* Settles call after call, and tells how far each got. A refusal may come in any of them: then nothing was written, and `file` is what the
  * call before it left. */
-static uint64_t settle_in_calls(struct held *plan) {
+static uint64_t settle_in_calls(struct plan_file *plan) {
     for (unsigned call = 1;; call++) {
         uint64_t answer = gristwaltz_settle_within(plan->file, plan->length, MOST, plan->other, GRISTWALTZ_LONGEST_FILE);
         if (gristwaltz_refusal(answer)) return answer;
@@ -47,7 +47,7 @@ static uint64_t settle_in_calls(struct held *plan) {
 }
 
 /* What the host does with a plan: the answer is gristwaltz_settle's, and on success `file` the settled plan's. */
-static uint64_t settle_limited(const char *name, struct held *plan) {
+static uint64_t settle_limited(const char *name, struct plan_file *plan) {
     uint64_t most = gristwaltz_most_passes(plan->file, plan->length);
     if (gristwaltz_refusal(most)) return most;
     printf("%s: at most %u passes, ", name, gristwaltz_passes(most));
@@ -63,7 +63,7 @@ static uint64_t settle_limited(const char *name, struct held *plan) {
 
 int main(void) {
     uint8_t buffers[2][GRISTWALTZ_LONGEST_FILE], kept[GRISTWALTZ_LONGEST_FILE]; /* kept: to compare with */
-    struct held plan = {buffers[0], buffers[1], 0};
+    struct plan_file plan = {buffers[0], buffers[1], 0};
 
     plan.length = case_nine(plan.file); /* of task 0 could be removed 1 + 0 + 1 + 1, of task 1 6 + 0 + 6 + 4 and one of two resources: 20 */
     uint64_t answer = settle_limited("case 9", &plan);

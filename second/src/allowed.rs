@@ -70,21 +70,42 @@ fn count_from(plan: &Plan, choices: &[Vec<Choice>], chosen: &mut Vec<Choice>) ->
     count
 }
 
-/// "on every resource and every day covered there by at least one task, the
-/// heights of all tasks covering that day on that resource add up to at least
-/// (or at most) the limit", and that is the day's. "A day that no task covers is
-/// not checked (report, condition 4)."
+/// On every resource and every day that is checked there, "the heights of all
+/// tasks covering that day on that resource add up to at least (or at most) the
+/// limit", and that is the day's.
 fn levels_hold(plan: &Plan, chosen: &[Choice]) -> bool {
-    chosen.iter().all(|choice| {
-        choice.days().all(|day| {
-            let level = level_on(chosen, choice.place, day);
-            let limit = plan.limit_on(choice.place, day);
+    let mut resources = plan.resources.iter().enumerate();
+    resources.all(|(place, resource)| {
+        let days = checked_days(chosen, place, resource.kind);
+        days.iter().all(|day| {
+            let level = level_on(chosen, place, *day);
+            let limit = plan.limit_on(place, *day);
             match plan.sense {
                 Sense::AtLeast => level >= limit,
                 Sense::AtMost => level <= limit,
             }
         })
     })
+}
+
+/// The days that are checked on the resource at this place; of a plain one, a day
+/// that several tasks cover comes up for each of them.
+pub fn checked_days(chosen: &[Choice], place: usize, kind: Kind) -> Vec<i64> {
+    let there = chosen.iter().filter(|choice| choice.place == place);
+    match kind {
+        // "every day covered there by at least one task"; "A day that no task covers
+        // is not checked (report, condition 4)."
+        Kind::Plain => there.flat_map(Choice::days).collect(),
+        // "the days from the least origin to one before the greatest end of the tasks
+        // placed there are all checked, tasks of duration 0 taking part in both": of
+        // no task, none.
+        Kind::Held => {
+            let least_origin = there.clone().map(|choice| choice.origin).min();
+            let greatest_end = there.map(|choice| choice.end).max();
+            let ends = least_origin.zip(greatest_end);
+            ends.map_or(Vec::new(), |(origin, end)| (origin..end).collect())
+        }
+    }
 }
 
 /// "the heights of all tasks covering that day on that resource" added up.

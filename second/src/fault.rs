@@ -1,5 +1,5 @@
-//! The "Errors that look right" of document 01, errors of the bands, one of the pass, errors of request 6, and errors that request 3's counts
-//! of ones and trailing zeros invite, each to be planted alone.
+//! The "Errors that look right" of document 01, errors of the bands, one of the pass, errors of request 6, errors that request 3's counts
+//! of ones and trailing zeros invite, and errors of the held resources, each to be planted alone.
 
 /// A planted error. The rules without one take `None`.
 #[derive(Clone, Copy, Debug, PartialEq, Eq)]
@@ -43,6 +43,12 @@ pub enum Fault {
     /// A pass that has taken a resource's step goes on at the second place after it: the resource at the next place is left out. Settling's
     /// passes have it too.
     NeighbourSkipped,
+    /// A held day counts only where a task is sure: in the steps a held resource is as a plain one.
+    HeldAsPlain,
+    /// "tasks of duration 0 taking part in both" forgotten: a task whose only duration is 0 holds no day.
+    ZeroLeftOut,
+    /// A task that could go elsewhere holds days too, where "one task with only that resource" is asked for: plans are lost.
+    HeldElsewhere,
 }
 
 /// Every fault with the name the command line knows it by.
@@ -62,6 +68,9 @@ pub const FAULTS: &[(&str, Fault)] = &[
     ("lowest-only", Fault::LowestOnly),
     ("zeros-counted", Fault::ZerosCounted),
     ("neighbour-skipped", Fault::NeighbourSkipped),
+    ("held-as-plain", Fault::HeldAsPlain),
+    ("zero-left-out", Fault::ZeroLeftOut),
+    ("held-elsewhere", Fault::HeldElsewhere),
 ];
 
 pub fn names() -> Vec<&'static str> {

@@ -24,6 +24,20 @@ pub const RS: Record = Record {
     length: 10,
 };
 
+/// "In a file a held resource has mark RH in place of RS, same layout."
+pub const RH: Record = Record {
+    mark: *b"RH",
+    length: RS.length,
+};
+
+/// The record of a resource of this kind.
+pub const fn resource_record(kind: Kind) -> Record {
+    match kind {
+        Kind::Plain => RS,
+        Kind::Held => RH,
+    }
+}
+
 /// "resource place (2 bytes), first day (4), limit (4), 12 bytes with the mark"
 pub const LB: Record = Record {
     mark: *b"LB",
@@ -39,7 +53,7 @@ pub const TK: Record = Record {
 
 /// How long the file of so many resources, bands and tasks is, and so where the
 /// record after them starts: "One PL, all RS, all TK, nothing more", with the LB
-/// "after all RS and before TK".
+/// "after all RS and before TK", and an RH as long as the RS in whose place it is.
 pub const fn length(resources: usize, bands: usize, tasks: usize) -> usize {
     PL.length + resources * RS.length + bands * LB.length + tasks * TK.length
 }
@@ -91,7 +105,7 @@ pub fn read_with_room(bytes: &[u8], room: Room) -> Result<Plan, Refusal> {
         tasks: Vec::new(),
     };
     for _ in 0..resources {
-        plan.resources.push(resource_of(reader.due(RS)?));
+        plan.resources.push(resource(&mut reader)?);
     }
     plan.bands = bands(&mut reader, room.bands)?;
     for _ in 0..tasks {
@@ -101,6 +115,18 @@ pub fn read_with_room(bytes: &[u8], room: Room) -> Result<Plan, Refusal> {
     reader.end()?;
     entry::check_contents(&plan)?;
     Ok(plan)
+}
+
+/// The next resource: RH is due "in place of RS", so that either mark is, each time
+/// anew. Any other mark, and a record cut short, is refused as where RS is due.
+fn resource(reader: &mut Reader) -> Result<Resource, Refusal> {
+    let kind = if reader.is_at(RH) {
+        Kind::Held
+    } else {
+        Kind::Plain
+    };
+    let fields = reader.due(resource_record(kind))?;
+    Ok(resource_of(fields, kind))
 }
 
 /// The bands, as far as LB marks follow: nothing says before how many there are.
@@ -189,10 +215,11 @@ impl Fields<'_> {
     }
 }
 
-fn resource_of(mut fields: Fields) -> Resource {
+fn resource_of(mut fields: Fields, kind: Kind) -> Resource {
     Resource {
         id: fields.signed(),
         limit: i64::from(fields.signed()),
+        kind,
     }
 }
 
@@ -268,7 +295,7 @@ pub fn write(plan: &Plan, buffer: &mut [u8]) -> Result<usize, Refusal> {
 pub fn unchecked_bytes(plan: &Plan) -> Vec<u8> {
     let mut bytes = Head::of(plan).bytes();
     for resource in &plan.resources {
-        bytes.extend(RS.mark);
+        bytes.extend(resource_record(resource.kind).mark);
         bytes.extend(resource.id.to_le_bytes());
         bytes.extend((resource.limit as i32).to_le_bytes());
     }

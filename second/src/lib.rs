@@ -1,4 +1,4 @@
-//! The second program: document 01, with requests 1 and 6 of document 02, read literally, day by day and value by value.
+//! The second program: document 01, with requests 1, 4 and 6 of document 02, read literally, day by day and value by value.
 //!
 //! "Further plans, valid and damaged, are run by a program and compared with an
 //! independent second program that lists allowed plans and applies the rules day
@@ -27,5 +27,5 @@ pub mod stream;
 pub mod words;
 
 pub use fault::Fault;
-pub use plan::{Band, Plan, Range, Resource, Sense, Set, Task};
+pub use plan::{Band, Kind, Plan, Range, Resource, Sense, Set, Task};
 pub use refusal::Refusal;

@@ -79,18 +79,55 @@ impl Sense {
     }
 }
 
-/// "Each has an identifier (any signed 32-bit number, each different) and a limit."
+/// "Each has an identifier (any signed 32-bit number, each different) and a limit";
+/// "A resource gets a kind".
 #[derive(Clone, Copy, Debug, PartialEq, Eq)]
 pub struct Resource {
     pub id: i32,
     pub limit: i64,
+    pub kind: Kind,
 }
 
 impl Resource {
+    pub const fn new(id: i32, limit: i64, kind: Kind) -> Resource {
+        Resource { id, limit, kind }
+    }
+
+    pub const fn plain(id: i32, limit: i64) -> Resource {
+        Resource::new(id, limit, Kind::Plain)
+    }
+
+    pub const fn held(id: i32, limit: i64) -> Resource {
+        Resource::new(id, limit, Kind::Held)
+    }
+
+    pub fn is_held(&self) -> bool {
+        self.kind == Kind::Held
+    }
+
+    /// The kind stays: which days are checked is not a matter of the sense.
     fn negated(&self) -> Resource {
         Resource {
             limit: -self.limit,
             ..*self
+        }
+    }
+}
+
+/// "A resource gets a kind, plain or held."
+#[derive(Clone, Copy, Debug, PartialEq, Eq)]
+pub enum Kind {
+    /// A day is checked where a task covers it.
+    Plain,
+    /// The level "must hold from the first start to the last end on it".
+    Held,
+}
+
+impl Kind {
+    pub fn other(self) -> Kind {
+        match self {
+            Kind::Plain => Kind::Held,
+            Kind::Held => Kind::Plain,
         }
     }
 }

@@ -7,6 +7,13 @@ pub struct Random {
     state: u64,
 }
 
+/// What is drawn from a source aside.
+#[derive(Clone, Copy)]
+pub enum Aside {
+    Bands,
+    Kinds,
+}
+
 impl Random {
     /// The source for file number `n` of the stream with this seed.
     pub fn new(seed: u64, n: u64) -> Random {
@@ -19,9 +26,13 @@ impl Random {
     }
 
     /// Another source beside this one, which stays as it is: what is drawn there changes nothing here.
-    pub fn aside(&self) -> Random {
+    pub fn aside(&self, of: Aside) -> Random {
+        let apart = match of {
+            Aside::Bands => 0x6C62_272E_07BB_0142,
+            Aside::Kinds => 0x62B8_2175_6295_C58D,
+        };
         Random {
-            state: self.state ^ 0x6C62_272E_07BB_0142,
+            state: self.state ^ apart,
         }
     }
 

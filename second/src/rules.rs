@@ -7,10 +7,13 @@
 //! every sure task counts, since the height rule and an unbalanced origin can need
 //! it." No day is left out here either: "The sweep jumps between days where
 //! something starts or ends; its result equals the rules taken day by day."
+//!
+//! Which days count for shortfall and need is a matter of the resource's kind. "The
+//! rules for bar and height stay."
 
 use crate::fault::Fault;
 use crate::left::Left;
-use crate::plan::{Plan, Range, Set, Task};
+use crate::plan::{Kind, Plan, Range, Set, Task};
 use crate::refusal::Refusal;
 
 /// "Resource step, sense at least, resource r, limit L, day i": what its rules
@@ -28,8 +31,8 @@ pub struct Step<'a> {
 struct Day {
     number: i64,
     limit: i64,
-    /// "some task is sure on i".
-    some_sure: bool,
+    /// Whether the day counts for shortfall and need.
+    counts: bool,
     /// "all hopes together".
     hopes: i64,
 }
@@ -38,19 +41,17 @@ impl Step<'_> {
     /// The tasks as the step leaves them.
     pub fn tasks(&self) -> Result<Vec<Task>, Refusal> {
         let days = self.days();
-        // Shortfall: "some task is sure on i and all hopes together are below L: no plan."
-        if days
-            .iter()
-            .any(|day| day.some_sure && day.hopes < day.limit)
-        {
+        // Shortfall: the day counts "and all hopes together are below L: no plan."
+        if days.iter().any(|day| day.counts && day.hopes < day.limit) {
             return Err(Refusal::NO_PLAN);
         }
         let narrowed = |task| self.narrowed(task, &days);
         self.plan.tasks.iter().map(narrowed).collect()
     }
 
-    /// Every day from the least origin low to the greatest end high; no task is
-    /// possible on any other day.
+    /// Every day from the least origin low to the greatest end high: no task is
+    /// possible on any other day, and none of the others is held. Of these some may be
+    /// held although no task is possible on them.
     fn days(&self) -> Vec<Day> {
         let tasks = self.plan.tasks.iter();
         let first = tasks.clone().map(|task| task.origin.low).min();
@@ -61,7 +62,7 @@ impl Step<'_> {
         let mut days: Vec<Day> = (first..=last).map(|i| self.day(i)).collect();
         if self.is_planted(Fault::BareDays) {
             let before_last = days.iter_mut().filter(|day| day.number < last);
-            before_last.for_each(|day| day.some_sure = true);
+            before_last.for_each(|day| day.counts = true);
         }
         days
     }
@@ -71,8 +72,34 @@ impl Step<'_> {
         Day {
             number: i,
             limit: self.limit_on(i),
-            some_sure: tasks.clone().any(|task| self.is_sure(task, i)),
+            counts: self.counts(i),
             hopes: tasks.map(|task| self.hope(task, i)).sum(),
+        }
+    }
+
+    /// Whether day i counts for shortfall and need.
+    fn counts(&self, i: i64) -> bool {
+        match self.plan.resources[self.place].kind {
+            Kind::Held if !self.is_planted(Fault::HeldAsPlain) => self.is_held(i),
+            // "some task is sure on i"
+            _ => self.plan.tasks.iter().any(|task| self.is_sure(task, i)),
+        }
+    }
+
+    /// "a held day counts when one task with only that resource has origin high <= day
+    /// and one such task has end low > day": one and the same, or two.
+    fn is_held(&self, i: i64) -> bool {
+        let mut holding = self.plan.tasks.iter().filter(|task| self.holds(task));
+        let is_begun = holding.clone().any(|task| task.origin.high <= i);
+        is_begun && holding.any(|task| self.is_before(i, task.end.low))
+    }
+
+    /// "one task with only that resource", "tasks of duration 0 taking part".
+    fn holds(&self, task: &Task) -> bool {
+        match self.fault {
+            Some(Fault::HeldElsewhere) => self.is_among(task),
+            Some(Fault::ZeroLeftOut) => self.is_only(task) && task.duration.high > 0,
+            _ => self.is_only(task),
         }
     }
 
@@ -179,13 +206,13 @@ impl Step<'_> {
         left.task(self.fault)
     }
 
-    /// Need: "some task is sure on i, and a task possible on i with positive
-    /// highest height has others < L".
+    /// Need: the day counts, "and a task possible on i with positive highest height
+    /// has others < L".
     fn need(&self, task: &Task, day: &Day, others: i64, left: &mut Left) {
         let i = day.number;
         let is_positive = self.highest_on(task, i) > 0;
         let is_needed = self.is_possible(task, i) && is_positive && others < day.limit;
-        if !day.some_sure || !is_needed {
+        if !day.counts || !is_needed {
             return;
         }
         let longest = task.duration.high;
@@ -202,7 +229,7 @@ impl Step<'_> {
     fn bar(&self, task: &Task, day: &Day, others: i64, left: &mut Left) {
         let i = day.number;
         let is_low = others + self.highest_on(task, i) < day.limit;
-        let is_spared = self.is_planted(Fault::BarNeedsSure) && !day.some_sure;
+        let is_spared = self.is_planted(Fault::BarNeedsSure) && !day.counts;
         if self.is_possible(task, i) && is_low && !is_spared {
             self.bar_day(task, i, left);
         }

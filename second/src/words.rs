@@ -15,8 +15,12 @@ pub fn of_plan(plan: &Plan) -> String {
         plan.tasks.len()
     );
     for (place, resource) in plan.resources.iter().enumerate() {
+        let kind = match resource.kind {
+            Kind::Plain => "",
+            Kind::Held => ", held",
+        };
         text += &format!(
-            "resource {place}: identifier {}, limit {}\n",
+            "resource {place}: identifier {}, limit {}{kind}\n",
             resource.id, resource.limit
         );
     }

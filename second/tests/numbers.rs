@@ -2,7 +2,7 @@
 
 mod support;
 
-use second::file::{length, read, unchecked_bytes, LB, LONGEST, PL, RS, TK};
+use second::file::{length, read, unchecked_bytes, LB, LONGEST, PL, RH, RS, TK};
 use second::plan::{DAYS, DURATIONS, MOST_BANDS, MOST_RESOURCES, MOST_TASKS, POWERS};
 use second::program::READ_AT_MOST;
 use second::{Plan, Refusal, Resource, Sense};
@@ -16,8 +16,8 @@ fn counts_ends_and_lengths() {
     assert_eq!(POWERS, to(-1_000_000, 1_000_000));
     assert_eq!(MOST_TASKS as i64 * POWERS.high, 256_000_000);
     assert_eq!(
-        [PL.length, RS.length, LB.length, TK.length],
-        [6, 10, 12, 36]
+        [PL.length, RS.length, RH.length, LB.length, TK.length],
+        [6, 10, 10, 12, 36]
     );
     assert_eq!(length(MOST_RESOURCES, 0, MOST_TASKS), 9_382);
     assert_eq!((LONGEST, READ_AT_MOST), (10_150, 10_151));
@@ -28,7 +28,7 @@ fn counts_ends_and_lengths() {
 fn a_file_byte_by_byte() {
     let plan = Plan {
         sense: Sense::AtLeast,
-        resources: vec![Resource { id: -2, limit: 258 }],
+        resources: vec![Resource::plain(-2, 258)],
         bands: Vec::new(),
         tasks: vec![wide(1, to(-1, 0), to(1, 10_000), to(2, 3), to(-258, 259))],
     };
@@ -47,7 +47,7 @@ fn a_file_byte_by_byte() {
 fn a_file_with_bands_byte_by_byte() {
     let plan = Plan {
         sense: Sense::AtMost,
-        resources: vec![Resource { id: 1, limit: 0 }, Resource { id: 2, limit: -1 }],
+        resources: vec![Resource::plain(1, 0), Resource::plain(2, -1)],
         bands: vec![
             band(0, -100_000, 1_000_000),
             band(0, -1, 258),
@@ -72,17 +72,39 @@ fn a_file_with_bands_byte_by_byte() {
 }
 
 #[test]
+fn a_file_with_held_resources_byte_by_byte() {
+    let plan = Plan {
+        sense: Sense::AtLeast,
+        resources: vec![
+            Resource::held(-2, 258),
+            Resource::plain(1, 0),
+            Resource::held(i32::MAX, -1_000_000),
+        ],
+        bands: vec![band(2, 5, 1)],
+        tasks: Vec::new(),
+    };
+    let mut bytes = b"PL\x01\x03\x00\x00".to_vec();
+    bytes.extend(b"RH\xFE\xFF\xFF\xFF\x02\x01\x00\x00");
+    bytes.extend(b"RS\x01\x00\x00\x00\x00\x00\x00\x00");
+    bytes.extend(b"RH\xFF\xFF\xFF\x7F\xC0\xBD\xF0\xFF");
+    bytes.extend(b"LB\x02\x00\x05\x00\x00\x00\x01\x00\x00\x00");
+    assert_eq!(bytes.len(), 6 + 3 * 10 + 12);
+    assert_eq!(unchecked_bytes(&plan), bytes);
+    assert_eq!(read(&bytes), Ok(plan));
+}
+
+#[test]
 fn a_plan_in_the_other_sense() {
     let task = |height| wide(3, DAYS, DURATIONS, DAYS, height);
     let plan = Plan {
         sense: Sense::AtMost,
-        resources: vec![Resource { id: 4, limit: 5 }, Resource { id: -4, limit: -6 }],
+        resources: vec![Resource::plain(4, 5), Resource::held(-4, -6)],
         bands: vec![band(0, -3, 8), band(1, 2, -1_000_000)],
         tasks: vec![task(to(-1, 3)), task(to(0, 0))],
     };
     let negated = Plan {
         sense: Sense::AtLeast,
-        resources: vec![Resource { id: 4, limit: -5 }, Resource { id: -4, limit: 6 }],
+        resources: vec![Resource::plain(4, -5), Resource::held(-4, 6)],
         bands: vec![band(0, -3, -8), band(1, 2, 1_000_000)],
         tasks: vec![task(to(-3, 1)), task(to(0, 0))],
     };

@@ -8,7 +8,7 @@ mod support;
 
 use second::random::Random;
 use second::steps::resource_step;
-use second::{file, make, Plan, Range, Sense, Set, Task};
+use second::{file, make, Kind, Plan, Range, Sense, Set, Task};
 use support::*;
 
 fn is_sure(task: &Task, r: usize, i: i64) -> bool {
@@ -36,6 +36,21 @@ fn limit(plan: &Plan, r: usize, i: i64) -> i64 {
         }
     }
     limit
+}
+
+/// Whether day i counts for shortfall and need: of a held resource, every pair of tasks tried.
+fn counts(plan: &Plan, r: usize, i: i64) -> bool {
+    let tasks = &plan.tasks;
+    if plan.resources[r].kind == Kind::Plain {
+        return tasks.iter().any(|task| is_sure(task, r, i));
+    }
+    let only = |task: &Task| task.set.0 == 1 << r;
+    let hold = |one: &Task, other: &Task| {
+        only(one) && one.origin.high <= i && only(other) && other.end.low > i
+    };
+    tasks
+        .iter()
+        .any(|one| tasks.iter().any(|other| hold(one, other)))
 }
 
 /// What is left of one task: the set, and a list for each range.
@@ -106,12 +121,12 @@ fn narrowed(plan: &Plan, place: usize, r: usize) -> Option<Task> {
                 others += hope(task, r, i);
             }
         }
-        let some_sure = tasks.iter().any(|task| is_sure(task, r, i));
+        let counts = counts(plan, r, i);
         let possible = is_possible(task, r, i);
-        if some_sure && others + hope(task, r, i) < l {
+        if counts && others + hope(task, r, i) < l {
             return None;
         }
-        if some_sure && possible && task.height.high > 0 && others < l {
+        if counts && possible && task.height.high > 0 && others < l {
             left.need(task, r, i);
         }
         if possible && others + task.height.high < l {

@@ -23,7 +23,7 @@ const LENGTH: usize = 144;
 /// So many resources, each with this limit.
 fn resources(count: usize, limit: i64) -> Vec<Resource> {
     let ids = 0..count as i32;
-    ids.map(|id| Resource { id, limit }).collect()
+    ids.map(|id| Resource::plain(id, limit)).collect()
 }
 
 fn refused<T>(number: u32, place: usize) -> Result<T, Refusal> {
@@ -74,7 +74,7 @@ fn refusal_2_no_resource_or_too_many_before_3() {
     let mut bent = sound();
     bent.resources.clear();
     every_call_refuses(&bent, 2, 0);
-    bent.resources = vec![Resource { id: 1, limit: 0 }; MOST_RESOURCES + 1];
+    bent.resources = vec![Resource::plain(1, 0); MOST_RESOURCES + 1];
     every_call_refuses(&bent, 2, 0);
 }
 

@@ -9,7 +9,7 @@ use second::make::{plan_file, stream};
 use second::program::{answer, READ_AT_MOST};
 use second::random::Random;
 use second::steps::pass;
-use second::{Fault, Plan, Refusal};
+use second::{Fault, Kind, Plan, Refusal, Resource};
 use std::collections::BTreeMap;
 use support::small_plan;
 
@@ -117,6 +117,32 @@ fn a_stream_has_plans_with_bands_and_without() {
     let counts = format!("{banded} with, {plain} without, {changed} changed, {settled} settled");
     assert!(banded > COUNT / 3 && plain > COUNT / 3, "{counts}");
     assert!(changed > banded / 4 && settled > banded / 3, "{counts}");
+}
+
+/// A third of the plans has held resources, most have none, and held days change answers: no plan where there was one, and ranges.
+#[test]
+fn a_stream_has_plans_with_held_resources_and_without() {
+    let (mut held, mut plain, mut changed, mut narrowed) = (0, 0, 0, 0);
+    for n in 0..COUNT {
+        let Ok(mut plan) = read(&plan_file(SEED, n)) else {
+            continue;
+        };
+        if !plan.resources.iter().any(Resource::is_held) {
+            plain += 1;
+            continue;
+        }
+        held += 1;
+        let with = answer(&file::unchecked_bytes(&plan), None);
+        for resource in &mut plan.resources {
+            resource.kind = Kind::Plain;
+        }
+        let without = answer(&file::unchecked_bytes(&plan), None);
+        changed += u64::from(with != without);
+        narrowed += u64::from(with != without && with.starts_with("settled"));
+    }
+    let counts = format!("{held} with, {plain} without, {changed} changed, {narrowed} narrowed");
+    assert!(held > COUNT / 4 && plain > COUNT / 2, "{counts}");
+    assert!(changed > held / 5 && narrowed > held / 20, "{counts}");
 }
 
 /// The plan that one pass leaves of a file.

@@ -17,6 +17,7 @@ use format::HeaderAnswer;
 use format::Mark;
 use format::Run;
 use format::table;
+use held::HELD_EVENTS;
 use looks::refusal_number;
 use plan::Answer;
 use plan::Call;
@@ -138,7 +139,7 @@ fn apply_unbanded(
 
 pub const SMALL: usize = 16;
 
-pub const SMALL_KEYS: usize = SMALL * EVENTS_A_TASK;
+pub const SMALL_KEYS: usize = SMALL * EVENTS_A_TASK + HELD_EVENTS;
 
 pub const SMALL_SPARE: usize = SMALL_KEYS / 2;
 
@@ -171,7 +172,7 @@ fn apply_small(c: Call, file: &[u8], h: Header, out: &mut [u8]) -> u64
 
 pub const MIDDLE: usize = 64;
 
-pub const MIDDLE_KEYS: usize = MIDDLE * EVENTS_A_TASK;
+pub const MIDDLE_KEYS: usize = MIDDLE * EVENTS_A_TASK + HELD_EVENTS;
 
 pub const MIDDLE_SPARE: usize = MIDDLE_KEYS / 2;
 
@@ -204,7 +205,7 @@ fn apply_middle(c: Call, file: &[u8], h: Header, out: &mut [u8]) -> u64
 
 pub const WIDE: usize = 128;
 
-pub const WIDE_KEYS: usize = WIDE * EVENTS_A_TASK;
+pub const WIDE_KEYS: usize = WIDE * EVENTS_A_TASK + HELD_EVENTS;
 
 pub const WIDE_SPARE: usize = WIDE_KEYS / 2;
 
@@ -235,7 +236,7 @@ fn apply_wide(c: Call, file: &[u8], h: Header, out: &mut [u8]) -> u64
     )
 }
 
-pub const LARGE_KEYS: usize = MOST_TASKS * EVENTS_A_TASK;
+pub const LARGE_KEYS: usize = MOST_TASKS * EVENTS_A_TASK + HELD_EVENTS;
 
 pub const LARGE_SPARE: usize = LARGE_KEYS / 2;
 

@@ -7,6 +7,7 @@ ghost use Rattle.plan.specs.Tasks.{mostTasks, mostResources, mostBands, noTask,
 ghost use Rattle.copies.specs.Loaded.{loadedTasks, loadedResources, loadedBands};
 use plan::Band;
 use plan::Day;
+use plan::Kind;
 use plan::MOST_BANDS;
 use plan::MOST_RESOURCES;
 use plan::MOST_TASKS;
@@ -54,7 +55,11 @@ pub fn no_resource() -> Resource
     ensures { λ r. ⌜ r ≡ noResource ⌝ }
 {
     let p = Power(0);
-    Resource { id: 0, limit: p }
+    Resource {
+        id: 0,
+        limit: p,
+        kind: Kind::Plain,
+    }
 }
 
 pub fn no_band() -> Band

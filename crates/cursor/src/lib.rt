@@ -7,8 +7,8 @@ ghost use lib.Dec.{ltb};
 ghost use lib.ListN.{length, drop};
 ghost use Rattle.integers.specs.Tests.{if};
 ghost use Rattle.format.specs.declared.Mark.the-variants.{PL, RS, LB, TK};
-ghost use Rattle.format.specs.Format.{markSize, marked, size, numbersIn, headerFrom, resourceFrom, bandFrom, taskFrom};
-ghost use Rattle.cursor.specs.Handed.{recordOf, standing, handed, recordAt, pastAt, sameMark, notDue};
+ghost use Rattle.format.specs.Format.{markSize, marked, kindMark, size, numbersIn, headerFrom, resourceFrom, bandFrom, taskFrom};
+ghost use Rattle.cursor.specs.Handed.{recordOf, standing, handed, recordAt, pastAt, sameMark, standsFor, notDue};
 use format::Header;
 use format::Mark;
 use format::fields::cell_at;
@@ -22,6 +22,7 @@ use format::table::first_byte;
 use format::table::second_byte;
 use plan::Band;
 use plan::Day;
+use plan::Kind;
 use plan::Power;
 use plan::Refusal;
 use plan::Resource;
@@ -44,7 +45,7 @@ pub enum Record {
     Ended,
 }
 
-// What each record holds, where the bytes begin with it.
+// What each record holds, where the bytes begin with it; a resource's kind is told by its mark.
 fn header_of(b: &[u8]) -> Header
     requires { ⌜ size PL ≤ length (now b) ⌝ }
     ensures { λ r. ⌜ r ≡ headerFrom (numbersIn PL (now (b .entry))) ⌝ }
@@ -56,13 +57,14 @@ fn header_of(b: &[u8]) -> Header
     }
 }
 
-fn resource_of(b: &[u8]) -> Resource
+fn resource_of(kind: Kind, b: &[u8]) -> Resource
     requires { ⌜ size RS ≤ length (now b) ⌝ }
-    ensures { λ r. ⌜ r ≡ resourceFrom (numbersIn RS (now (b .entry))) ⌝ }
+    ensures { λ r. ⌜ r ≡ resourceFrom (kindMark kind) (numbersIn RS (now (b .entry))) ⌝ }
 {
     Resource {
         id: id_at(b, table::IDENTIFIER),
         limit: Power(cell_at(b, table::LIMIT)),
+        kind: kind,
     }
 }
 
@@ -118,17 +120,17 @@ fn plan_record(at: usize, b: &[u8]) -> Record
     Record::Plan(header_of(b), past)
 }
 
-fn resource_record(at: usize, b: &[u8]) -> Record
+fn resource_record(kind: Kind, at: usize, b: &[u8]) -> Record
     requires { ⌜ at + length (now b) < 2 ^ 64 ⌝ }
-    ensures { λ r. ⌜ r ≡ recordOf RS at (now (b .entry)) ⌝ }
+    ensures { λ r. ⌜ r ≡ recordOf (kindMark kind) at (now (b .entry)) ⌝ }
 {
     if b.len() < table::RS_SIZE {
-        return Record::CutShort(Mark::RS);
+        return Record::CutShort(table::kind_mark(kind));
     }
     let past = Cursor {
         at: at + table::RS_SIZE,
     };
-    Record::Resource(resource_of(b), past)
+    Record::Resource(resource_of(kind, b), past)
 }
 
 fn band_record(at: usize, b: &[u8]) -> Record
@@ -163,7 +165,8 @@ fn record_of(k: Mark, at: usize, b: &[u8]) -> Record
 {
     match k {
         Mark::PL => plan_record(at, b),
-        Mark::RS => resource_record(at, b),
+        Mark::RS => resource_record(Kind::Plain, at, b),
+        Mark::RH => resource_record(Kind::Held, at, b),
         Mark::LB => band_record(at, b),
         Mark::TK => task_record(at, b),
     }
@@ -179,6 +182,9 @@ fn standing(b: &[u8]) -> Mark
     }
     if is_marked(Mark::RS, b) {
         return Mark::RS;
+    }
+    if is_marked(Mark::RH, b) {
+        return Mark::RH;
     }
     if is_marked(Mark::LB, b) {
         return Mark::LB;
@@ -268,6 +274,16 @@ fn same_mark(j: Mark, k: Mark) -> bool
     are_mark(first_byte(j), second_byte(j), k)
 }
 
+// Whether a mark that stands where another is due is that one, or the one in its place.
+fn stands_for(j: Mark, k: Mark) -> bool
+    ensures { λ r. ⌜ r ≡ standsFor j k ⌝ }
+{
+    if same_mark(j, table::in_place_of(k)) {
+        return true;
+    }
+    same_mark(j, k)
+}
+
 // "turns every other answer into the refusal": the place is where the record starts.
 pub fn not_due(k: Mark, at: usize, got: Record) -> Refusal
     ensures { λ r. ⌜ r ≡ notDue k at got ⌝ }
@@ -275,7 +291,7 @@ pub fn not_due(k: Mark, at: usize, got: Record) -> Refusal
     match got {
         Record::Ended => Refusal::CutShort(at),
         Record::CutShort(j) => {
-            if same_mark(j, k) {
+            if stands_for(j, k) {
                 Refusal::CutShort(at)
             } else {
                 Refusal::WrongMark(at)

@@ -390,6 +390,43 @@ fn band_list_short() {
     show_lent(878, &h, 2, 64, 2);
 }
 
+// The file with its second resource held: "mark RH in place of RS, same layout".
+fn held() -> [u8; 99] {
+    let mut f = whole();
+    f[17] = b'H';
+    f
+}
+
+fn cut_held(n: usize) {
+    let f = held();
+    show_first(n, &f);
+}
+
+// The first resource held, and the second. 9: that one cut short, from its first byte to its last, and what is due behind it; 8: a mark that
+// is nearly RS and RH.
+fn held_resources() {
+    changed(7, b'H');
+    cut_held(98);
+    cut_held(17);
+    cut_held(18);
+    cut_held(25);
+    cut_held(26);
+    changed(17, b'X');
+}
+
+// 8: an RH among the bands; where TK is due, whole and cut short; where PL is due.
+fn held_misplaced() {
+    both_changed(38, b'R', 39, b'H');
+    let mut f = whole();
+    f[26] = b'R';
+    f[27] = b'H';
+    show_first(98, &f);
+    show_first(28, &f);
+    f[0] = b'R';
+    f[1] = b'H';
+    show_first(98, &f);
+}
+
 // The plan's two resources, so many bands and two tasks into a buffer of n bytes.
 fn write_first(
     n: usize,
@@ -432,6 +469,8 @@ fn written_again() {
     let g = banded(2);
     let mut banded_out = [0u8; 878];
     written(122, 2, &g, &mut banded_out);
+    let h = held();
+    written(98, 0, &h, &mut out);
 }
 
 fn show_written(answer: WriteAnswer) {
@@ -459,5 +498,7 @@ fn main() {
     bands_in_order();
     too_many_bands();
     band_list_short();
+    held_resources();
+    held_misplaced();
     written_again();
 }

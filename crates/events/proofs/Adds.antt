@@ -19,7 +19,7 @@ use Rattle.plan.specs.Powers.{powerEnds}
 use Rattle.plan.specs.Sets.{has}
 use Rattle.plan.specs.Tasks.{Bounded}
 use Rattle.plan.proofs.Sets.{has-not-zero, only-has}
-use Rattle.rules.specs.Step.{possible, running, sure, hope, total, counts}
+use Rattle.rules.specs.Step.{possible, running, sure, hope, total}
 use Rattle.rules.proofs.Live.{live-bounded}
 use Rattle.rules.proofs.TaskDay.{possible-is, sure-only, no-sure}
 use Rattle.events.specs.Keys.{dayOf, powerOf, sureOf, keyOf, EventFits}
@@ -32,7 +32,7 @@ use Rattle.events.proofs.Spans.{hopeful-is, hopeful-in, fixed-is, surel
 abbrev pub upTo : (ℕ → ℤ) → ℤ → ℕ → ℤ
 upTo f i k = if (leZ (dayOf k) i) (f k) (pos 0)
 
-abbrev between : ℤ → ℤ → ℤ → Bool
+abbrev pub between : ℤ → ℤ → ℤ → Bool
 between a b i = and (leZ a i) (ltZ i b)
 
 -- 1 where the task is sure
@@ -52,14 +52,14 @@ pair-sum f k l i x a b p q u v h =
     (λ e. rw (p, q, e, leZ-out b i (omega z)))
 
 -- ---- a part of a key, and the like part of what it is made of: the power or the count. Both add up alike.
-record Part (f : ℕ → ℤ) (v : ℤ → ℤ → ℤ) : Type 0 where
-  key : (d p u : ℤ) → EventFits d p u → f (keyOf d p u) ≡ v p u
-  none : v (pos 0) (pos 0) ≡ pos 0
-  back : (p u : ℤ) → v (negℤ p) (negℤ u) ≡ negℤ (v p u)
-  both : (p u q w : ℤ) → v p u +ℤ v q w ≡ v (p +ℤ q) (u +ℤ w)
+pub record Part (f : ℕ → ℤ) (v : ℤ → ℤ → ℤ) : Type 0 where
+  pub key : (d p u : ℤ) → EventFits d p u → f (keyOf d p u) ≡ v p u
+  pub none : v (pos 0) (pos 0) ≡ pos 0
+  pub back : (p u : ℤ) → v (negℤ p) (negℤ u) ≡ negℤ (v p u)
+  pub both : (p u q w : ℤ) → v p u +ℤ v q w ≡ v (p +ℤ q) (u +ℤ w)
 
 module _ (f : ℕ → ℤ) (v : ℤ → ℤ → ℤ) (part : Part f v) where
-  change-adds : (a b p u i : ℤ) → ChangeFits (change a b p u) → a ≤ℤ b
+  pub change-adds : (a b p u i : ℤ) → ChangeFits (change a b p u) → a ≤ℤ b
       → sumOf (upTo f i) (changeKeys (change a b p u)) ≡ if (between a b i) (v p u) (pos 0)
   unfolding changeKeys
   change-adds a b p u i e h =
@@ -156,14 +156,19 @@ module _ (f : ℕ → ℤ) (v : ℤ → ℤ → ℤ) (part : Part f v) where
         sum-append (upTo f i) (eventsOf r t) (keysOf r ts)
         ∙ rw (events-adds t b, keys-adds bs) (part .both (hope r i t) (sureOne r i t) (total r ts i) (sumOf (sureOne r i) ts))
 
+pub powers : Part powerOf (λ p u. p)
+powers = record { key = key-power; none = refl; back = λ p u. refl; both = λ p u q w. refl }
+
+pub sures : Part sureOf (λ p u. u)
+sures = record { key = key-sure; none = refl; back = λ p u. refl; both = λ p u q w. refl }
+
 module _ (r : ℕ) (i : ℤ) where
   pub keys-power : (ts : List Task) → Each Bounded ts → sumOf (upTo powerOf i) (keysOf r ts) ≡ total r ts i
-  keys-power ts = keys-adds powerOf (λ p u. p) (record { key = key-power; none = refl; back = λ p u. refl; both = λ p u q w. refl }) r i
+  keys-power ts = keys-adds powerOf (λ p u. p) powers r i
 
   pub keys-sure : (ts : List Task) → Each Bounded ts → sumOf (upTo sureOf i) (keysOf r ts) ≡ sumOf (sureOne r i) ts
-  keys-sure ts = keys-adds sureOf (λ p u. u) (record { key = key-sure; none = refl; back = λ p u. refl; both = λ p u q w. refl }) r i
+  keys-sure ts = keys-adds sureOf (λ p u. u) sures r i
 
   -- some task is sure where the number of sure tasks is positive
-  pub counts-is : (ts : List Task) → counts r ts i ≡ ltZ (pos 0) (sumOf (sureOne r i) ts)
-  unfolding counts
-  counts-is ts = any-ones (sure r i) ts
+  pub some-sure : (ts : List Task) → any (sure r i) ts ≡ ltZ (pos 0) (sumOf (sureOne r i) ts)
+  some-sure ts = any-ones (sure r i) ts

@@ -29,7 +29,7 @@ module _ (q : ℤ → Bool) where
   abbrev pub onDays : List ℕ → Bool
   onDays ks = all (λ k. q (dayOf k)) ks
 
-  change-days : (a b p u : ℤ) → ChangeFits (change a b p u) → onDays (changeKeys (change a b p u)) ≡ and (q a) (q b)
+  pub change-days : (a b p u : ℤ) → ChangeFits (change a b p u) → onDays (changeKeys (change a b p u)) ≡ and (q a) (q b)
   unfolding all changeKeys
   change-days a b p u f = simp (key-day a p u (f .first), key-day b (negℤ p) (negℤ u) (f .last), and-true)
 

@@ -108,7 +108,7 @@ pub struct Change {
 pub const EVENTS_A_TASK: usize = 4;
 
 // an event and its opposite, behind the first n
-fn put_change(keys: &mut [u64], n: usize, e: Change) -> usize
+pub fn put_change(keys: &mut [u64], n: usize, e: Change) -> usize
     requires { ⌜ n + 2 ≤ length (now keys) ⌝ }
     requires { ⌜ ChangeFits e ⌝ }
     ensures { λ r. ⌜ Laid (now (keys .entry)) (now (keys .exit)) n r (changeKeys e) ⌝ }

@@ -73,7 +73,7 @@ pub fn read_header(file: &[u8]) -> HeaderAnswer
     header_in(got)
 }
 
-// All RS, one after another, and the rows they make; behind so many bands, all TK.
+// All RS, or RH in place of RS, one after another, and the rows they make; behind so many bands, all TK.
 fn read_resources(file: &[u8], h: Header, q: &mut [ResourceRow]) -> Checked
     requires { ⌜ h .resources ≤ length (now q) ⌝ }
     ensures { λ r. ⌜ ReadRun resources (now (file .entry)) (size PL) (h .resources) r (resourcesOf (now (q .exit))) ⌝ }

@@ -1,4 +1,4 @@
--- Files, with bands and without, each with its answer as worked out by hand: read, or refused with 1, 2, 8, 9, 11 or 13, computed.
+-- Files, with bands and held resources and without, each with its answer as worked out by hand: read, or refused with 1, 2, 8, 9, 11 or 13, computed.
 use mathlib.Core.Path.{_≡_, refl}
 use mathlib.Core.List.{List, [], _∷_, _++_}
 use Prim.Native.Nat.{ℕ, zero, suc}
@@ -8,24 +8,29 @@ use Rattle.integers.specs.Tests.{any, all}
 use Rattle.integers.specs.Hull.{within, fits}
 use Rattle.plan.specs.declared.Band.{Band}
 use Rattle.plan.specs.declared.Resource.{Resource}
+use Rattle.plan.specs.declared.Kind.{Kind}
+use Rattle.plan.specs.declared.Kind.the-variants.{Plain, Held}
 use Rattle.plan.specs.declared.Task.{Task}
 use Rattle.plan.specs.declared.Sense.the-variants.{AtLeast}
 use Rattle.plan.specs.declared.Refusal.the-variants.{CutShort, ListShort, BandOutside, TooManyTasks, ResourceCount, WrongMark}
 use Rattle.plan.specs.Days.{day}
 use Rattle.plan.specs.Powers.{power}
 use Rattle.plan.specs.Tasks.{noTask}
-use Rattle.rules.specs.Frame.{framed, plain}
+use Rattle.rules.specs.Frame.{framed, unbanded}
 use Rattle.rules.specs.Calls.{repeats, limits, bandEnds, bandFits, bandsAfter, bandsFit, rangesFit, setFits, tasksFit, check}
 use Rattle.format.specs.Numbers.{bytesOf, numberOf}
-use Rattle.format.specs.Format.{marked, fieldBytes, recordBytes, fieldsIn, numbersIn, headerNumbers, headerFrom, resourceNumbers, resourceFrom, bandNumbers, bandFrom, taskNumbers, taskFrom, bands}
+use Rattle.format.specs.Format.{marked, dueIn, fieldBytes, recordBytes, fieldsIn, numbersIn, headerNumbers, headerFrom, resourceNumbers, resourceFrom, bandNumbers, bandFrom, taskNumbers, taskFrom, bands}
 use Rattle.format.specs.Writing.{recordsBytes, headerOf, written}
 use Rattle.format.specs.Reading.{due, eachDue, recordsIn, bandRun, bandDue, eachBandDue, bandsDue, bandCount, headerIn, headerDue, listsDue, readHeader, bandsIn, frameIn, tasksIn, bodyDue, Read, readBody, readAfter, readLent}
 
 abbrev band : ℕ → ℤ → ℤ → Band
 band p d l = record { place = p; from = day d; limit = power l }
 
+abbrev resource : ℤ → ℤ → Kind → Resource
+resource i l x = record { id = i; limit = power l; kind = x }
+
 abbrev one : List Resource
-one = record { id = pos 7; limit = power (pos 0) } ∷ []
+one = resource (pos 7) (pos 0) Plain ∷ []
 
 -- so many bands of limit 0, on one day after another
 abbrev daily : ℕ → ℕ → List Band
@@ -65,7 +70,7 @@ answers =
     -- a day below every day: 32 bits
     ∷ readLent 1 2 0 (file (band 0 (negsuc 2147483647) (pos 0) ∷ []))
     -- a band behind the tasks is left over
-    ∷ readLent 1 2 1 (written (plain AtLeast one) (placed ∷ []) ++ recordsBytes bands (daily 0 1))
+    ∷ readLent 1 2 1 (written (unbanded AtLeast one) (placed ∷ []) ++ recordsBytes bands (daily 0 1))
     -- nothing; one byte; another mark, cut short; a PL cut short whose sense is 2
     ∷ readLent 9 0 0 []
     ∷ readLent 9 0 0 (80 ∷ [])
@@ -84,6 +89,21 @@ answers =
     ∷ readLent 1 0 0 (80 ∷ 76 ∷ 1 ∷ 1 ∷ 0 ∷ 0 ∷ 82 ∷ 83 ∷ [])
     -- a band byte by byte: place 0, from day 3 on, limit 5
     ∷ readLent 1 1 0 (80 ∷ 76 ∷ 1 ∷ 1 ∷ 0 ∷ 0 ∷ 82 ∷ 83 ∷ 7 ∷ 0 ∷ 0 ∷ 0 ∷ 0 ∷ 0 ∷ 0 ∷ 0 ∷ 76 ∷ 66 ∷ 0 ∷ 0 ∷ 3 ∷ 0 ∷ 0 ∷ 0 ∷ 5 ∷ 0 ∷ 0 ∷ 0 ∷ [])
+    -- a held resource byte by byte; plain after held, held after plain
+    ∷ readLent 1 0 0 (80 ∷ 76 ∷ 1 ∷ 1 ∷ 0 ∷ 0 ∷ 82 ∷ 72 ∷ 7 ∷ 0 ∷ 0 ∷ 0 ∷ 5 ∷ 0 ∷ 0 ∷ 0 ∷ [])
+    ∷ readLent 2 0 0 (80 ∷ 76 ∷ 1 ∷ 2 ∷ 0 ∷ 0 ∷ 82 ∷ 72 ∷ 7 ∷ 0 ∷ 0 ∷ 0 ∷ 5 ∷ 0 ∷ 0 ∷ 0 ∷ 82 ∷ 83 ∷ 8 ∷ 0 ∷ 0 ∷ 0 ∷ 4 ∷ 0 ∷ 0 ∷ 0 ∷ [])
+    ∷ readLent 2 0 0 (80 ∷ 76 ∷ 1 ∷ 2 ∷ 0 ∷ 0 ∷ 82 ∷ 83 ∷ 7 ∷ 0 ∷ 0 ∷ 0 ∷ 5 ∷ 0 ∷ 0 ∷ 0 ∷ 82 ∷ 72 ∷ 8 ∷ 0 ∷ 0 ∷ 0 ∷ 4 ∷ 0 ∷ 0 ∷ 0 ∷ [])
+    -- cut short by a byte; after its mark; within it; a mark that shares the first byte, whole and cut short
+    ∷ readLent 1 0 0 (80 ∷ 76 ∷ 1 ∷ 1 ∷ 0 ∷ 0 ∷ 82 ∷ 72 ∷ 7 ∷ 0 ∷ 0 ∷ 0 ∷ 5 ∷ 0 ∷ 0 ∷ [])
+    ∷ readLent 1 0 0 (80 ∷ 76 ∷ 1 ∷ 1 ∷ 0 ∷ 0 ∷ 82 ∷ 72 ∷ [])
+    ∷ readLent 1 0 0 (80 ∷ 76 ∷ 1 ∷ 1 ∷ 0 ∷ 0 ∷ 82 ∷ [])
+    ∷ readLent 1 0 0 (80 ∷ 76 ∷ 1 ∷ 1 ∷ 0 ∷ 0 ∷ 82 ∷ 88 ∷ 7 ∷ 0 ∷ 0 ∷ 0 ∷ 5 ∷ 0 ∷ 0 ∷ 0 ∷ [])
+    ∷ readLent 1 0 0 (80 ∷ 76 ∷ 1 ∷ 1 ∷ 0 ∷ 0 ∷ 82 ∷ 88 ∷ [])
+    -- RH where PL is due; where TK is due, whole and cut short; behind the last record
+    ∷ readLent 1 0 0 (82 ∷ 72 ∷ [])
+    ∷ readLent 1 0 1 (80 ∷ 76 ∷ 1 ∷ 1 ∷ 1 ∷ 0 ∷ 82 ∷ 83 ∷ 7 ∷ 0 ∷ 0 ∷ 0 ∷ 5 ∷ 0 ∷ 0 ∷ 0 ∷ 82 ∷ 72 ∷ 8 ∷ 0 ∷ 0 ∷ 0 ∷ 4 ∷ 0 ∷ 0 ∷ 0 ∷ [])
+    ∷ readLent 1 0 1 (80 ∷ 76 ∷ 1 ∷ 1 ∷ 1 ∷ 0 ∷ 82 ∷ 83 ∷ 7 ∷ 0 ∷ 0 ∷ 0 ∷ 5 ∷ 0 ∷ 0 ∷ 0 ∷ 82 ∷ 72 ∷ [])
+    ∷ readLent 1 0 0 (80 ∷ 76 ∷ 1 ∷ 1 ∷ 0 ∷ 0 ∷ 82 ∷ 83 ∷ 7 ∷ 0 ∷ 0 ∷ 0 ∷ 5 ∷ 0 ∷ 0 ∷ 0 ∷ 82 ∷ 72 ∷ 8 ∷ 0 ∷ 0 ∷ 0 ∷ 4 ∷ 0 ∷ 0 ∷ 0 ∷ [])
     ∷ []
 
 abbrev printed : List Read
@@ -118,8 +138,20 @@ printed =
     ∷ Read.Refuse (WrongMark 6)
     ∷ Read.Refuse (CutShort 6)
     ∷ Read.Plan (framed AtLeast one (band 0 (pos 3) (pos 5) ∷ [])) []
+    ∷ Read.Plan (unbanded AtLeast (resource (pos 7) (pos 5) Held ∷ [])) []
+    ∷ Read.Plan (unbanded AtLeast (resource (pos 7) (pos 5) Held ∷ resource (pos 8) (pos 4) Plain ∷ [])) []
+    ∷ Read.Plan (unbanded AtLeast (resource (pos 7) (pos 5) Plain ∷ resource (pos 8) (pos 4) Held ∷ [])) []
+    ∷ Read.Refuse (CutShort 6)
+    ∷ Read.Refuse (CutShort 6)
+    ∷ Read.Refuse (CutShort 6)
+    ∷ Read.Refuse (WrongMark 6)
+    ∷ Read.Refuse (WrongMark 6)
+    ∷ Read.Refuse (WrongMark 0)
+    ∷ Read.Refuse (WrongMark 16)
+    ∷ Read.Refuse (WrongMark 16)
+    ∷ Read.Refuse (CutShort 16)
     ∷ []
 
 pub band-files : answers ≡ printed
-unfolding noTask any all within fits repeats limits bandEnds bandFits bandsAfter bandsFit rangesFit setFits tasksFit check bytesOf numberOf marked fieldBytes recordBytes fieldsIn numbersIn headerNumbers headerFrom resourceNumbers resourceFrom bandNumbers bandFrom taskNumbers taskFrom recordsBytes headerOf written due eachDue recordsIn bandRun bandDue eachBandDue bandsDue bandCount headerIn headerDue listsDue readHeader bandsIn frameIn tasksIn bodyDue readBody readAfter readLent
+unfolding noTask any all within fits repeats limits bandEnds bandFits bandsAfter bandsFit rangesFit setFits tasksFit check bytesOf numberOf marked dueIn fieldBytes recordBytes fieldsIn numbersIn headerNumbers headerFrom resourceNumbers resourceFrom bandNumbers bandFrom taskNumbers taskFrom recordsBytes headerOf written due eachDue recordsIn bandRun bandDue eachBandDue bandsDue bandCount headerIn headerDue listsDue readHeader bandsIn frameIn tasksIn bodyDue readBody readAfter readLent
 band-files = refl

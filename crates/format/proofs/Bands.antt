@@ -23,7 +23,7 @@ use Rattle.format.specs.declared.Mark.the-variants.{LB}
 use Rattle.format.specs.Format.{bands, tasks, size, marked, recordBytes, bandNumbers}
 use Rattle.format.specs.Writing.{recordsBytes, BandSmall}
 use Rattle.format.specs.Reading.{eachDue, bandRun, bandDue, eachBandDue}
-use Rattle.format.proofs.Records.{unrefused, due-in, own-mark, length-record, held-length}
+use Rattle.format.proofs.Records.{unrefused, due-in, due-alone, own-mark, length-record, held-length}
 use Rattle.format.proofs.Layouts.{bands-lawful}
 
 -- ---- one band
@@ -68,7 +68,7 @@ run-is (suc most) room k at bs h =
     let a = past-all (bandDue room k at bs) (eachBandDue most room (suc k) (at + size LB) rest) (rw m at h) in
     let t = taken-is room k at bs (a .0) in
     let r = run-is most room (suc k) (at + size LB) rest (a .1) in
-    let due : eachDue LB (bandRun (suc most) bs) at bs ≡ Accepted = rw (m, due-in LB at bs (record { whole = t .whole; begins = m })) (r .due) in
+    let due : eachDue LB (bandRun (suc most) bs) at bs ≡ Accepted = rw (m, due-alone LB bs refl, due-in LB at bs (record { whole = t .whole; begins = m })) (r .due) in
     let few = r .few (t .few) in
     let held = r .held (t .held) in
     record { due = due; few = λ l. rw m (omega (arith, few)); held = λ l. rw m (omega (arith, held)) })

@@ -322,13 +322,13 @@ module _ (file : List ℕ) (f : Frame) (ts : List Task) (w : Whole file f ts) (b
   bands-written =
       let at = bandsFrom (head .resources) in
       let r = run-is lookedAt mostBands 0 at (drop at file) (w .banded) in
-      records-written bands-lawful (λ b. Unit {0}) (λ ns held. tt) run at (drop at file) (r .due) (bytes-drop at bytes) .0
+      records-written bands-lawful (λ b. Unit {0}) (λ k ns held. tt) run at (drop at file) (r .due) (bytes-drop at bytes) .0
 
   tasks-written : recordsBytes (tasks (head .resources)) (tasksIn head file) ≡ take (head .tasks * size (taskMark (head .resources))) (drop (tasksFrom (head .resources) run) file)
   unfolding tasksIn
   tasks-written =
       let at = tasksFrom (head .resources) run in
-      records-written (tasks-lawful (head .resources)) (λ t. Unit {0}) (λ ns held. tt) (head .tasks) at (drop at file) (w .last) (bytes-drop at bytes) .0
+      records-written (tasks-lawful (head .resources)) (λ t. Unit {0}) (λ k ns held. tt) (head .tasks) at (drop at file) (w .last) (bytes-drop at bytes) .0
 
   parts : take (size PL) file ++ (take (head .resources * size (resources .due)) (drop (size PL) file) ++ (take (run * size (bands .due)) (drop (bandsFrom (head .resources)) file) ++ take (head .tasks * size (taskMark (head .resources))) (drop (tasksFrom (head .resources) run) file))) ≡ file
   parts =

@@ -1,8 +1,8 @@
 -- The three lists of a plan are laid out lawfully: an accepted plan's resources, bands and tasks are held by their records, and each is read
 -- back.
-use mathlib.Core.Path.{_≡_, refl}
+use mathlib.Core.Path.{_≡_, refl, sym}
 use mathlib.Core.Bool.{true}
-use mathlib.Core.List.{List, [], _∷_}
+use mathlib.Core.List.{List, [], _∷_, _++_}
 use Prim.Native.Nat.{ℕ, suc, _≤_, _<_, _^_}
 use native.Mathlib.Omega.{arith}
 use native.Mathlib.Nat.{pow-le-pow-right}
@@ -21,6 +21,7 @@ use Rattle.integers.proofs.Tests.{by-cases, and-first, and-second}
 use Rattle.integers.proofs.Lists.{each-so}
 use Rattle.plan.specs.declared.Task.{Task}
 use Rattle.plan.specs.declared.Resource.{Resource}
+use Rattle.plan.specs.declared.Kind.{Kind}
 use Rattle.plan.specs.declared.Band.{Band}
 use Rattle.plan.specs.declared.Checked.the-variants.{Accepted}
 use Rattle.plan.specs.Powers.{powerEnds}
@@ -30,11 +31,12 @@ use Rattle.rules.specs.Calls.{bandFits, check}
 use Rattle.rules.proofs.Checks.{accepts}
 use Rattle.rules.proofs.Bands.{fits-ends, fits-place, ends-in}
 use Rattle.rows.specs.View.{idHigh, idOf, resourceOf, resourcesOf}
-use Rattle.format.specs.declared.Mark.the-variants.{RS, LB, TK}
-use Rattle.format.specs.Format.{resources, bands, tasks, widths, resourceNumbers, resourceFrom, bandNumbers, bandFrom, taskNumbers, taskFrom}
+use Rattle.format.specs.declared.Mark.{Mark}
+use Rattle.format.specs.declared.Mark.the-variants.{RS, RH, LB, TK}
+use Rattle.format.specs.Format.{resources, bands, tasks, marked, dueIn, kindMark, kindFrom, widths, recordBytes, resourceNumbers, resourceFrom, bandNumbers, bandFrom, taskNumbers, taskFrom}
 use Rattle.format.specs.Writing.{Identified, ResourceSmall, twoBytes, BandSmall, TaskSmall}
 use Rattle.format.proofs.Numbers.{beyond}
-use Rattle.format.proofs.Records.{Held, none, more, Lawful}
+use Rattle.format.proofs.Records.{Held, none, more, due-alone, Lawful}
 
 -- ---- signed numbers of four bytes
 word : {x : ℤ} → SFits w32 x → ofZ w32 x < beyond 4
@@ -46,23 +48,38 @@ unfolding beyond
 bits h = ofZ-toZ {w = w32} (record { fits = h })
 
 -- ---- resources
+-- a kind's mark stands where a resource is due, and tells the kind
+kind-stands : (x : Kind) (ns rest : List ℕ) → dueIn RS (recordBytes (kindMark x) ns ++ rest) ≡ kindMark x
+unfolding dueIn marked recordBytes
+kind-stands Kind.Plain ns rest = refl
+kind-stands Kind.Held ns rest = refl
+
+pub kind-back : (x : Kind) → kindFrom (kindMark x) ≡ x
+kind-back Kind.Plain = refl
+kind-back Kind.Held = refl
+
+kind-again : (bs : List ℕ) → kindMark (kindFrom (dueIn RS bs)) ≡ dueIn RS bs
+unfolding dueIn
+kind-again bs = by-cases (marked RH bs) (λ e. rw e) (λ e. rw e)
+
 pub resources-lawful : Lawful resources ResourceSmall
 unfolding resourceNumbers resourceFrom
 resources-lawful =
     record {
-      same = λ q. refl;
+      stands = λ q ns rest. kind-stands (q .kind) ns rest;
+      again = λ bs ns. kind-again bs;
       long = λ q. refl;
       held = λ q f. more (word (f .id)) (more (word (f .limit)) none);
-      back = λ q f. simp (toZ-ofZ (f .id), toZ-ofZ (f .limit));
+      back = λ q f. simp (toZ-ofZ (f .id), toZ-ofZ (f .limit), kind-back (q .kind));
       forth = forth;
     }
   where
-    forth : (ns : List ℕ) → Held (widths RS) ns → resourceNumbers (resourceFrom ns) ≡ ns
-    forth _ (more a (more b none)) = simp (bits a, bits b)
+    forth : (k : Mark) (ns : List ℕ) → Held (widths RS) ns → resourceNumbers (resourceFrom k ns) ≡ ns
+    forth k _ (more a (more b none)) = simp (bits a, bits b)
 
-pub resource-identified : (ns : List ℕ) → Held (widths RS) ns → Identified (resourceFrom ns)
+pub resource-identified : (k : Mark) (ns : List ℕ) → Held (widths RS) ns → Identified (resourceFrom k ns)
 unfolding resourceFrom beyond
-resource-identified _ (more a r) = sfits-toZ (record { fits = a })
+resource-identified k _ (more a r) = sfits-toZ (record { fits = a })
 
 -- every row's identifier is one of 32 bits
 id-small : (x : ℤ) → SFits w32 (idOf x)
@@ -81,20 +98,29 @@ pub bands-lawful : Lawful bands BandSmall
 unfolding bandNumbers bandFrom beyond
 bands-lawful =
     record {
-      same = λ b. refl;
+      stands = λ b ns rest. due-alone LB (recordBytes LB ns ++ rest) refl;
+      again = λ bs ns. sym (due-alone LB bs refl);
       long = λ b. refl;
       held = λ b f. more (f .place) (more (word (f .from)) (more (word (f .limit)) none));
       back = λ b f. simp (toZ-ofZ (f .from), toZ-ofZ (f .limit));
       forth = forth;
     }
   where
-    forth : (ns : List ℕ) → Held (widths LB) ns → bandNumbers (bandFrom ns) ≡ ns
-    forth _ (more _ (more a (more b none))) = simp (bits a, bits b)
+    forth : (k : Mark) (ns : List ℕ) → Held (widths LB) ns → bandNumbers (bandFrom ns) ≡ ns
+    forth k _ (more _ (more a (more b none))) = simp (bits a, bits b)
 
 -- ---- tasks
 pub tasks-lawful : (n : ℕ) → Lawful (tasks n) TaskSmall
 unfolding taskNumbers taskFrom beyond
-tasks-lawful n = record { same = λ t. refl; long = λ t. refl; held = held; back = back; forth = forth }
+tasks-lawful n =
+    record {
+      stands = λ t ns rest. due-alone TK (recordBytes TK ns ++ rest) refl;
+      again = λ bs ns. sym (due-alone TK bs refl);
+      long = λ t. refl;
+      held = held;
+      back = back;
+      forth = forth;
+    }
   where
     held : (t : Task) → TaskSmall t → Held (widths TK) (taskNumbers t)
     held t s =
@@ -116,8 +142,8 @@ tasks-lawful n = record { same = λ t. refl; long = λ t. refl; held = held; bac
           toZ-ofZ (s .height .high),
         )
 
-    forth : (ns : List ℕ) → Held (widths TK) ns → taskNumbers (taskFrom ns) ≡ ns
-    forth _ (more _ (more a (more b (more c (more d (more e (more f (more g (more h none))))))))) =
+    forth : (k : Mark) (ns : List ℕ) → Held (widths TK) ns → taskNumbers (taskFrom ns) ≡ ns
+    forth k _ (more _ (more a (more b (more c (more d (more e (more f (more g (more h none))))))))) =
         simp (bits a, bits b, bits c, bits d, bits e, bits f, bits g, bits h)
 
 -- ---- numbers within the ends of days, durations and powers are numbers of four bytes

@@ -12,16 +12,16 @@ use lib.Seq.{length-take-le, take-at, drop-at, drop-drop, take-add}
 use borrow.Author.Tests.{ltb-false, le-ltb, eqb-true, not-false}
 use Rattle.integers.specs.Lists.{Each}
 use Rattle.integers.specs.Lists.Each.{nothing, also}
-use Rattle.integers.proofs.Tests.{and-first, and-second}
+use Rattle.integers.proofs.Tests.{by-cases, and-first, and-second}
 use Rattle.plan.specs.declared.Checked.the-variants.{Accepted}
 use Rattle.plan.specs.declared.Refusal.{Refusal}
 use Rattle.plan.specs.declared.Refusal.the-variants.{WrongMark, CutShort}
 use Rattle.rules.specs.Calls.{orElse, refuseIf}
 use Rattle.rules.proofs.Checks.{past, past-all}
 use Rattle.format.specs.declared.Mark.{Mark}
-use Rattle.format.specs.declared.Mark.the-variants.{PL, RS, LB, TK}
+use Rattle.format.specs.declared.Mark.the-variants.{PL, RS, RH, LB, TK}
 use Rattle.format.specs.Numbers.{bytesOf, numberOf, numberAt, Byte}
-use Rattle.format.specs.Format.{Layout, mark, markSize, marked, widths, total, size, fieldBytes, recordBytes, fieldsIn, numbersIn}
+use Rattle.format.specs.Format.{Layout, mark, markSize, marked, inPlaceOf, dueIn, widths, total, size, fieldBytes, recordBytes, fieldsIn, numbersIn}
 use Rattle.format.specs.Writing.{recordsBytes}
 use Rattle.format.specs.Reading.{due, eachDue, recordsIn}
 use Rattle.format.proofs.Numbers.{beyond, length-bytes, number-bytes, bytes-number, number-small, bytes-drop, bytes-take}
@@ -92,12 +92,14 @@ pub own-mark : (k : Mark) (ns rest : List ℕ) → marked k (recordBytes k ns ++
 unfolding marked recordBytes
 own-mark PL ns rest = refl
 own-mark RS ns rest = refl
+own-mark RH ns rest = refl
 own-mark LB ns rest = refl
 own-mark TK ns rest = refl
 
 mark-pair : (k : Mark) → getD (mark k) 0 0 ∷ getD (mark k) 1 0 ∷ [] ≡ mark k
 mark-pair PL = refl
 mark-pair RS = refl
+mark-pair RH = refl
 mark-pair LB = refl
 mark-pair TK = refl
 
@@ -175,18 +177,62 @@ module _ (k : Mark) {bs : List ℕ} (d : Due k bs) (a : Each Byte bs) where
         take-add markSize (total (widths k)) bs,
       )
 
+-- ---- a mark that is due, or the one in its place
+-- "same layout"
+place-widths : (k : Mark) → widths (inPlaceOf k) ≡ widths k
+place-widths PL = refl
+place-widths RS = refl
+place-widths RH = refl
+place-widths LB = refl
+place-widths TK = refl
+
+due-widths : (k : Mark) (bs : List ℕ) → widths (dueIn k bs) ≡ widths k
+unfolding dueIn
+due-widths k bs = by-cases (marked (inPlaceOf k) bs) (λ e. rw e (place-widths k)) (λ e. rw e)
+
+pub due-size : (k : Mark) (bs : List ℕ) → size (dueIn k bs) ≡ size k
+due-size k bs = ap (λ (ws : List ℕ). markSize + total ws) (due-widths k bs)
+
+-- a mark that has none in its place
+pub due-alone : (k : Mark) (bs : List ℕ) → inPlaceOf k ≡ k → dueIn k bs ≡ k
+unfolding dueIn
+due-alone k bs h = by-cases (marked (inPlaceOf k) bs) (λ e. rw e h) (λ e. rw e)
+
+-- two marks of one layout have the same numbers
+numbers-wide : (j k : Mark) (bs : List ℕ) → widths j ≡ widths k → numbersIn j bs ≡ numbersIn k bs
+unfolding numbersIn
+numbers-wide j k bs e = rw e
+
+module _ (k : Mark) {bs : List ℕ} (d : Due (dueIn k bs) bs) (a : Each Byte bs) where
+  due-held : Held (widths k) (numbersIn k bs)
+  unfolding numbersIn
+  due-held = subst (λ (ws : List ℕ). Held ws (fieldsIn ws (drop markSize bs))) (due-widths k bs) (record-held (dueIn k bs) d a)
+
+  due-written : recordBytes (dueIn k bs) (numbersIn k bs) ≡ take (size k) bs
+  due-written =
+      ap (recordBytes (dueIn k bs)) (sym (numbers-wide (dueIn k bs) k bs (due-widths k bs)))
+      ∙ record-written (dueIn k bs) d a
+      ∙ ap (λ (n : ℕ). take n bs) (due-size k bs)
+
 -- ---- the records of a list, one after another
--- an element that P holds of is written with the mark that is due and numbers that its record holds, and what is read there is the element
+-- an element is written with the mark that is due or the one in its place, and, if P holds of it, with numbers that its record holds; what is
+-- read there is the element
 pub record Lawful {A : Type 0} (l : Layout A) (P : A → Type 0) : Type 0 where
-  pub same : (x : A) → l .mark x ≡ l .due
+  pub stands : (x : A) (ns rest : List ℕ) → dueIn (l .due) (recordBytes (l .mark x) ns ++ rest) ≡ l .mark x
+  pub again : (bs ns : List ℕ) → l .mark (l .from (dueIn (l .due) bs) ns) ≡ dueIn (l .due) bs
   pub long : (x : A) → length (l .numbers x) ≡ length (widths (l .due))
   pub held : (x : A) → P x → Held (widths (l .due)) (l .numbers x)
-  pub back : (x : A) → P x → l .from (l .numbers x) ≡ x
-  pub forth : (ns : List ℕ) → Held (widths (l .due)) ns → l .numbers (l .from ns) ≡ ns
+  pub back : (x : A) → P x → l .from (l .mark x) (l .numbers x) ≡ x
+  pub forth : (k : Mark) (ns : List ℕ) → Held (widths (l .due)) ns → l .numbers (l .from k ns) ≡ ns
 
 module _ {A : Type 0} {l : Layout A} {P : A → Type 0} (w : Lawful l P) where
+  pub mark-widths : (x : A) → widths (l .mark x) ≡ widths (l .due)
+  mark-widths x = ap widths (sym (w .stands x [] [])) ∙ due-widths (l .due) (recordBytes (l .mark x) [] ++ [])
+
   pub length-one : (x : A) → length (recordBytes (l .mark x) (l .numbers x)) ≡ size (l .due)
-  length-one x = rw (w .same x) (length-record (l .due) (l .numbers x) (w .long x))
+  length-one x =
+      length-record (l .mark x) (l .numbers x) (w .long x ∙ ap length (sym (mark-widths x)))
+      ∙ ap (λ (ws : List ℕ). markSize + total ws) (mark-widths x)
 
   pub length-records : (xs : List A) → length (recordsBytes l xs) ≡ length xs * size (l .due)
   unfolding recordsBytes
@@ -200,37 +246,39 @@ module _ {A : Type 0} {l : Layout A} {P : A → Type 0} (w : Lawful l P) where
   unfolding recordsBytes eachDue recordsIn
   records-back nothing rest at = (refl, refl)
   records-back (also {x} {xs} p ps) rest at =
+      let j = l .mark x in
       let k = l .due in
+      let ns = l .numbers x in
       let later = recordsBytes l xs ++ rest in
-      let h = w .held x p in
-      let split : recordBytes (l .mark x) (l .numbers x) ++ recordsBytes l xs ++ rest ≡ recordBytes k (l .numbers x) ++ later =
-      rw (w .same x) (append-assoc (recordBytes k (l .numbers x)) (recordsBytes l xs) rest) in
-      let past : drop (size k) (recordBytes k (l .numbers x) ++ later) ≡ later =
-      drop-at (recordBytes k (l .numbers x)) later (size k) (length-record k (l .numbers x) (w .long x)) in
+      let h = subst (λ (ws : List ℕ). Held ws ns) (sym (mark-widths x)) (w .held x p) in
+      let split : (recordBytes j ns ++ recordsBytes l xs) ++ rest ≡ recordBytes j ns ++ later = append-assoc (recordBytes j ns) (recordsBytes l xs) rest in
+      let past : drop (size k) (recordBytes j ns ++ later) ≡ later = drop-at (recordBytes j ns) later (size k) (length-one x) in
+      let read : numbersIn k (recordBytes j ns ++ later) ≡ ns = sym (numbers-wide j k (recordBytes j ns ++ later) (mark-widths x)) ∙ record-read j h later in
       let r = records-back ps rest (at + size k) in
-      (rw (split, record-due k h later at, past) (r .0), rw (split, record-read k h later, past, w .back x p, r .1))
+      (rw (split, w .stands x ns later, record-due j h later at, past) (r .0), rw (split, w .stands x ns later, read, past, w .back x p, r .1))
 
   -- and read and written
-  module _ (Q : A → Type 0) (f : (ns : List ℕ) → Held (widths (l .due)) ns → Q (l .from ns)) where
+  module _ (Q : A → Type 0) (f : (k : Mark) (ns : List ℕ) → Held (widths (l .due)) ns → Q (l .from k ns)) where
     pub records-written : (n at : ℕ) (bs : List ℕ) → eachDue (l .due) n at bs ≡ Accepted → Each Byte bs → (recordsBytes l (recordsIn l n bs) ≡ take (n * size (l .due)) bs) × Each Q (recordsIn l n bs)
     unfolding eachDue recordsIn recordsBytes
     records-written zero at bs h a = (rw (zero-mul (size (l .due))), nothing)
     records-written (suc n) at bs h a =
         let k = l .due in
-        let e = past-all (due k at bs) (eachDue k n (at + size k) (drop (size k) bs)) h in
-        let d = due-is k at bs (e .0) in
-        let held = record-held k d a in
+        let j = dueIn k bs in
+        let e = past-all (due j at bs) (eachDue k n (at + size k) (drop (size k) bs)) h in
+        let d = due-is j at bs (e .0) in
+        let held = due-held k d a in
         let r = records-written n (at + size k) (drop (size k) bs) (e .1) (bytes-drop (size k) a) in (
           rw (
-            w .same (l .from (numbersIn k bs)),
-            w .forth (numbersIn k bs) held,
-            record-written k d a,
+            w .again bs (numbersIn k bs),
+            w .forth j (numbersIn k bs) held,
+            due-written k d a,
             r .0,
             suc-mul n (size k),
             add-comm (n * size k) (size k),
             take-add (size k) (n * size k) bs,
           ),
-          also (f (numbersIn k bs) held) (r .1),
+          also (f j (numbersIn k bs) held) (r .1),
         )
 
 pub length-in : {A : Type 0} (l : Layout A) (n : ℕ) (bs : List ℕ) → length (recordsIn l n bs) ≡ n

@@ -24,7 +24,7 @@ use Rattle.format.specs.declared.Mark.{Mark}
 use Rattle.format.specs.declared.Mark.the-variants.{PL, LB}
 use Rattle.format.specs.declared.Header.{Header}
 use Rattle.format.specs.declared.HeaderAnswer.{HeaderAnswer}
-use Rattle.format.specs.Format.{resources, tasks, size, markSize, marked, bandsFrom, tasksFrom, longestFile}
+use Rattle.format.specs.Format.{resources, tasks, size, markSize, marked, dueIn, bandsFrom, tasksFrom, longestFile}
 use Rattle.format.specs.Reading.{Read, due, eachDue, bandDue, eachBandDue, bandsDue, bandCount, bandsIn, lookedAt, runDue, headerIn, headerDue, listsDue, fileEnd, frameIn, tasksIn, bodyDue, headerUnless, readUnless, readChecked, readHeader, readBody, readAfter, readPlan, lentAfter, planAfter, readLent}
 use Rattle.format.proofs.Bands.{run-is, taken-is}
 use Rattle.format.proofs.Files.{Few, few}
@@ -49,7 +49,7 @@ each-placed : (k : Mark) (n at : ℕ) (bs : List ℕ) → at + n * size k ≤ lo
 unfolding eachDue
 each-placed k zero at bs l = tt
 each-placed k (suc n) at bs l =
-    placed-then longestFile (due k at bs) (eachDue k n (at + size k) (drop (size k) bs)) (due-placed k at bs (omega arith))
+    placed-then longestFile (due (dueIn k bs) at bs) (eachDue k n (at + size k) (drop (size k) bs)) (due-placed (dueIn k bs) at bs (omega arith))
     (λ e. each-placed k n (at + size k) (drop (size k) bs) (omega (arith, l, suc-mul n (size k))))
 
 -- a band too, or, where it is a 65th, by its own place

@@ -17,7 +17,7 @@ use Rattle.plan.specs.declared.Checked.{Checked}
 use Rattle.plan.specs.declared.Checked.the-variants.{Accepted, Refused}
 use Rattle.plan.specs.declared.Refusal.the-variants.{CutShort, ListShort}
 use Rattle.plan.specs.Tasks.{mostBands}
-use Rattle.rules.specs.Frame.{Frame, plain, resourceCount}
+use Rattle.rules.specs.Frame.{Frame, unbanded, resourceCount}
 use Rattle.rules.specs.Calls.{orElse, refuseIf}
 use Rattle.rules.proofs.Checks.{past-all}
 use Rattle.format.specs.declared.Mark.the-variants.{PL}
@@ -46,7 +46,7 @@ module _ (file : List ℕ) (bytes : AllBytes file) (f : Frame) (ts : List Task) 
   read-written e = accepted-written e .1
 
 -- ---- "Files without LB keep their bytes."
-pub plain-written : (sense : Sense) (qs : List Resource) (ts : List Task) → written (plain sense qs) ts ≡ recordBytes PL (headerNumbers (headerOf (plain sense qs) (length ts))) ++ (recordsBytes resources qs ++ recordsBytes (tasks (length qs)) ts)
+pub plain-written : (sense : Sense) (qs : List Resource) (ts : List Task) → written (unbanded sense qs) ts ≡ recordBytes PL (headerNumbers (headerOf (unbanded sense qs) (length ts))) ++ (recordsBytes resources qs ++ recordsBytes (tasks (length qs)) ts)
 unfolding written recordsBytes
 plain-written sense qs ts = refl
 

@@ -11,7 +11,7 @@ use Rattle.plan.specs.declared.Checked.{Checked}
 use Rattle.plan.specs.declared.Checked.the-variants.{Accepted, Refused}
 use Rattle.plan.specs.declared.Refusal.{Refusal}
 use Rattle.rules.specs.Calls.{orElse}
-use Rattle.format.specs.Format.{Layout, size, recordBytes, numbersIn}
+use Rattle.format.specs.Format.{Layout, size, dueIn, recordBytes, numbersIn}
 use Rattle.format.specs.Writing.{recordsBytes}
 use Rattle.format.specs.Reading.{due, eachDue, recordsIn, runDue, runIn, ReadRun}
 use Rattle.format.proofs.Records.{Lawful, length-one, length-in}
@@ -69,14 +69,14 @@ module _ {A : Type 0} {l : Layout A} {file : List ℕ} {from n : ℕ} {ds : List
   one-left h = omega arith
 
   -- the next record decides, and then the others
-  next-due : i < n → runDue l file from n ≡ orElse (due (l .due) at (drop at file)) (runDue l file (at + size (l .due)) (n - (i + 1)))
+  next-due : i < n → runDue l file from n ≡ orElse (due (dueIn (l .due) (drop at file)) at (drop at file)) (runDue l file (at + size (l .due)) (n - (i + 1)))
   unfolding eachDue
   next-due h = sym (r .due) ∙ rw (one-left h, drop-drop (size (l .due)) at file)
 
-  pub reading-goes-on : {later : List A} → i < n → due (l .due) at (drop at file) ≡ Accepted → later ≡ set now i (l .from (numbersIn (l .due) (drop at file))) → Reading l file from n ds (i + 1) (at + size (l .due)) later
+  pub reading-goes-on : {later : List A} → i < n → due (dueIn (l .due) (drop at file)) at (drop at file) ≡ Accepted → later ≡ set now i (l .from (dueIn (l .due) (drop at file)) (numbersIn (l .due) (drop at file))) → Reading l file from n ds (i + 1) (at + size (l .due)) later
   unfolding recordsIn
   reading-goes-on h d e =
-      let step : sets now i (runIn l file at (n - i)) ≡ sets (set now i (l .from (numbersIn (l .due) (drop at file)))) (i + 1) (runIn l file (at + size (l .due)) (n - (i + 1))) =
+      let step : sets now i (runIn l file at (n - i)) ≡ sets (set now i (l .from (dueIn (l .due) (drop at file)) (numbersIn (l .due) (drop at file)))) (i + 1) (runIn l file (at + size (l .due)) (n - (i + 1))) =
       rw (one-left h, drop-drop (size (l .due)) at file, add-one i) in
       record {
         upto = omega arith;
@@ -85,7 +85,7 @@ module _ {A : Type 0} {l : Layout A} {file : List ℕ} {from n : ℕ} {ds : List
         still = rw e (sym step ∙ r .still);
       }
 
-  pub reading-refused : {f : Refusal} {list : List A} → i < n → due (l .due) at (drop at file) ≡ Refused f → ReadRun l file from n (Refused f) list
+  pub reading-refused : {f : Refusal} {list : List A} → i < n → due (dueIn (l .due) (drop at file)) at (drop at file) ≡ Refused f → ReadRun l file from n (Refused f) list
   reading-refused h d =
       record {
         answer = sym (next-due h ∙ ap (λ (x : Checked). orElse x (runDue l file (at + size (l .due)) (n - (i + 1)))) d);

@@ -8,7 +8,7 @@ use native.Mathlib.Nat.{zero-add, add-zero, add-suc, suc-add, add-assoc}
 use lib.ListN.{length, take, drop, set}
 use lib.Seq.{sets, sets-eq, take-at}
 use Rattle.format.specs.declared.Mark.{Mark}
-use Rattle.format.specs.declared.Mark.the-variants.{PL, RS, LB, TK}
+use Rattle.format.specs.declared.Mark.the-variants.{PL, RS, RH, LB, TK}
 use Rattle.format.specs.Numbers.{bytesOf}
 use Rattle.format.specs.Format.{mark, markSize, widths, recordBytes, fieldBytes}
 use Rattle.format.specs.Writing.{laid}
@@ -47,6 +47,7 @@ fields-stored l at o (w ∷ ws) (n ∷ ns) =
 pub length-mark : (k : Mark) → length (mark k) ≡ markSize
 length-mark PL = refl
 length-mark RS = refl
+length-mark RH = refl
 length-mark LB = refl
 length-mark TK = refl
 

@@ -5,9 +5,11 @@ use mathlib.Core.List.{List, [], _∷_, _++_}
 use Prim.Native.Nat.{ℕ, zero, suc, _+_, _*_}
 use lib.Dec.{eqb}
 use lib.ListN.{getD, take, drop}
-use Rattle.integers.specs.Tests.{and}
+use Rattle.integers.specs.Tests.{and, if}
 use Rattle.plan.specs.declared.Task.{Task}
 use Rattle.plan.specs.declared.Resource.{Resource}
+use Rattle.plan.specs.declared.Kind.{Kind}
+use Rattle.plan.specs.declared.Kind.the-variants.{Plain, Held}
 use Rattle.plan.specs.declared.Band.{Band}
 use Rattle.plan.specs.declared.Span.{Span}
 use Rattle.plan.specs.declared.PowerSpan.{PowerSpan}
@@ -17,7 +19,7 @@ use Rattle.plan.specs.Days.{day}
 use Rattle.plan.specs.Powers.{power}
 use Rattle.plan.specs.Tasks.{mostResources, mostBands, mostTasks}
 use Rattle.format.specs.declared.Mark.{Mark}
-use Rattle.format.specs.declared.Mark.the-variants.{PL, RS, LB, TK}
+use Rattle.format.specs.declared.Mark.the-variants.{PL, RS, RH, LB, TK}
 use Rattle.format.specs.declared.Header.{Header}
 use Rattle.format.specs.Numbers.{bytesOf, numberOf, signedOf, unsignedOf}
 
@@ -25,14 +27,16 @@ use Rattle.format.specs.Numbers.{bytesOf, numberOf, signedOf, unsignedOf
 abbrev pub mark : Mark → List ℕ
 mark PL = 80 ∷ 76 ∷ []
 mark RS = 82 ∷ 83 ∷ []
+mark RH = 82 ∷ 72 ∷ []
 mark LB = 76 ∷ 66 ∷ []
 mark TK = 84 ∷ 75 ∷ []
 
--- PL: "sense 1, resource count 1, task count 2"; RS: "identifier 4, limit 4"; LB: "resource place (2 bytes), first day (4), limit (4)";
--- TK: "set 2 (bit k is resource k), then low and high, 4 each, of origin, duration, end, height"
+-- PL: "sense 1, resource count 1, task count 2"; RS: "identifier 4, limit 4"; RH: "same layout"; LB: "resource place (2 bytes), first day (4),
+-- limit (4)"; TK: "set 2 (bit k is resource k), then low and high, 4 each, of origin, duration, end, height"
 abbrev pub widths : Mark → List ℕ
 widths PL = 1 ∷ 1 ∷ 2 ∷ []
 widths RS = 4 ∷ 4 ∷ []
+widths RH = 4 ∷ 4 ∷ []
 widths LB = 2 ∷ 4 ∷ 4 ∷ []
 widths TK = 2 ∷ 4 ∷ 4 ∷ 4 ∷ 4 ∷ 4 ∷ 4 ∷ 4 ∷ 4 ∷ []
 
@@ -44,13 +48,38 @@ total (w ∷ ws) = w + total ws
 abbrev pub markSize : ℕ
 markSize = 2
 
--- "total": 6, 10, 12 and 36
+-- "total": 6, 10, 10, 12 and 36
 abbrev pub size : Mark → ℕ
 size k = markSize + total (widths k)
 
 -- these bytes begin with the mark, in both of its bytes
 unfoldable pub marked : Mark → List ℕ → Bool
 marked k bs = and (eqb (getD bs 0 0) (getD (mark k) 0 0)) (eqb (getD bs 1 0) (getD (mark k) 1 0))
+
+-- ---- "In a file a held resource has mark RH in place of RS, same layout."
+-- the mark that may stand where a mark is due as well as that one: no other mark has another in its place
+abbrev pub inPlaceOf : Mark → Mark
+inPlaceOf PL = PL
+inPlaceOf RS = RH
+inPlaceOf RH = RH
+inPlaceOf LB = LB
+inPlaceOf TK = TK
+
+-- where a mark is due: the one in its place, if these bytes begin with it, and else that mark
+unfoldable pub dueIn : Mark → List ℕ → Mark
+dueIn k bs = if (marked (inPlaceOf k) bs) (inPlaceOf k) k
+
+-- the mark of a resource of such a kind, and the kind that a mark tells
+abbrev pub kindMark : Kind → Mark
+kindMark Plain = RS
+kindMark Held = RH
+
+abbrev pub kindFrom : Mark → Kind
+kindFrom PL = Plain
+kindFrom RS = Plain
+kindFrom RH = Held
+kindFrom LB = Plain
+kindFrom TK = Plain
 
 -- ---- a record's bytes from its numbers, and its numbers from its bytes
 unfoldable pub fieldBytes : List ℕ → List ℕ → List ℕ
@@ -81,8 +110,8 @@ headerFrom ns = record { sense = field ns 0; resources = field ns 1; tasks = fie
 unfoldable pub resourceNumbers : Resource → List ℕ
 resourceNumbers q = unsignedOf (q .id) ∷ unsignedOf (q .limit .0) ∷ []
 
-unfoldable pub resourceFrom : List ℕ → Resource
-resourceFrom ns = record { id = signedOf (field ns 0); limit = power (signedOf (field ns 1)) }
+unfoldable pub resourceFrom : Mark → List ℕ → Resource
+resourceFrom k ns = record { id = signedOf (field ns 0); limit = power (signedOf (field ns 1)); kind = kindFrom k }
 
 unfoldable pub bandNumbers : Band → List ℕ
 bandNumbers b = b .place ∷ unsignedOf (b .from .0) ∷ unsignedOf (b .limit .0) ∷ []
@@ -127,29 +156,29 @@ senseFrom (suc n) = AtLeast
 -- ---- the lists of a plan, record after record
 -- the mark that a resource's record is written with, and that of every task of a plan of so many resources
 abbrev pub resourceMark : Resource → Mark
-resourceMark q = RS
+resourceMark q = kindMark (q .kind)
 
 abbrev pub taskMark : ℕ → Mark
 taskMark n = TK
 
--- how the elements of a list stand in a file: the mark and the numbers that each is written with, the mark that is due where one is read,
--- and the element that the numbers there stand for
+-- how the elements of a list stand in a file: the mark and the numbers that each is written with, the mark that is due where one is read
+-- (it, or the one in its place), and the element that the mark and the numbers there stand for
 pub record Layout (A : Type 0) : Type 0 where
   pub mark : A → Mark
   pub numbers : A → List ℕ
   pub due : Mark
-  pub from : List ℕ → A
+  pub from : Mark → List ℕ → A
 
 abbrev pub resources : Layout Resource
 resources = record { mark = resourceMark; numbers = resourceNumbers; due = RS; from = resourceFrom }
 
 abbrev pub bands : Layout Band
-bands = record { mark = λ b. LB; numbers = bandNumbers; due = LB; from = bandFrom }
+bands = record { mark = λ b. LB; numbers = bandNumbers; due = LB; from = λ k. bandFrom }
 
 abbrev pub tasks : ℕ → Layout Task
-tasks n = record { mark = λ t. taskMark n; numbers = taskNumbers; due = taskMark n; from = taskFrom }
+tasks n = record { mark = λ t. taskMark n; numbers = taskNumbers; due = taskMark n; from = λ k. taskFrom }
 
--- "One PL, all RS", bands "after all RS and before TK", "all TK": where the bands start, where the task records start, and where the file
+-- "One PL, all RS" (or RH in place of RS), bands "after all RS and before TK", "all TK": where the bands start, where the task records start, and where the file
 -- ends, of so many resources, bands and tasks
 abbrev pub bandsFrom : ℕ → ℕ
 bandsFrom n = size PL + n * size (resources .due)

@@ -26,7 +26,7 @@ use Rattle.format.specs.declared.Header.{Header}
 use Rattle.format.specs.declared.HeaderAnswer.{HeaderAnswer}
 use Rattle.format.specs.declared.Run.{Run}
 use Rattle.format.specs.declared.ReadAnswer.{ReadAnswer}
-use Rattle.format.specs.Format.{Layout, resources, bands, tasks, size, markSize, marked, numbersIn, headerFrom, senseNumber, senseFrom, bandsFrom, tasksFrom, fileLength}
+use Rattle.format.specs.Format.{Layout, resources, bands, tasks, size, markSize, marked, dueIn, numbersIn, headerFrom, senseNumber, senseFrom, bandsFrom, tasksFrom, fileLength}
 use Rattle.format.specs.Writing.{laid}
 
 -- ---- one record, in the bytes from its place on
@@ -36,15 +36,15 @@ due k at bs =
     orElse (refuseIf (ltb (length bs) markSize) (CutShort at))
     (orElse (refuseIf (not (marked k bs)) (WrongMark at)) (refuseIf (ltb (length bs) (size k)) (CutShort at)))
 
--- ---- so many records of one mark, one after another: whether each is due, and what they hold
+-- ---- so many records where one mark is due, or the one in its place, one after another: whether each is due, and what they hold
 unfoldable pub eachDue : Mark → ℕ → ℕ → List ℕ → Checked
 eachDue k zero at bs = Accepted
-eachDue k (suc n) at bs = orElse (due k at bs) (eachDue k n (at + size k) (drop (size k) bs))
+eachDue k (suc n) at bs = orElse (due (dueIn k bs) at bs) (eachDue k n (at + size k) (drop (size k) bs))
 
 module _ {A : Type 0} (l : Layout A) where
   unfoldable pub recordsIn : ℕ → List ℕ → List A
   recordsIn zero bs = []
-  recordsIn (suc n) bs = l .from (numbersIn (l .due) bs) ∷ recordsIn n (drop (size (l .due)) bs)
+  recordsIn (suc n) bs = l .from (dueIn (l .due) bs) (numbersIn (l .due) bs) ∷ recordsIn n (drop (size (l .due)) bs)
 
   -- from a place of a file on
   abbrev pub runDue : List ℕ → ℕ → ℕ → Checked

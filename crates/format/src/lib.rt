@@ -9,10 +9,11 @@ use plan::Refusal;
 use plan::Resource;
 use plan::Sense;
 
-// The four marks, in a file's order.
+// The five marks, in a file's order; "a held resource has mark RH in place of RS".
 pub enum Mark {
     PL,
     RS,
+    RH,
     LB,
     TK,
 }

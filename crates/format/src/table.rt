@@ -2,8 +2,9 @@
 ghost use mathlib.Core.Path.{_≡_};
 ghost use Prim.Native.Nat.{_<_, _^_};
 ghost use lib.ListN.{getD};
-ghost use Rattle.format.specs.Format.{mark, senseNumber, senseFrom, bandsFrom, tasksFrom, fileLength, longestFile};
+ghost use Rattle.format.specs.Format.{mark, kindMark, inPlaceOf, senseNumber, senseFrom, bandsFrom, tasksFrom, fileLength, longestFile};
 use crate::Mark;
+use plan::Kind;
 use plan::MOST_BANDS;
 use plan::MOST_RESOURCES;
 use plan::MOST_TASKS;
@@ -21,7 +22,7 @@ pub const TASK_COUNT: usize = RESOURCE_COUNT + 1;
 
 pub const PL_SIZE: usize = TASK_COUNT + 2;
 
-// RS: "identifier 4, limit 4".
+// RS: "identifier 4, limit 4"; RH has the "same layout".
 pub const IDENTIFIER: usize = MARK_SIZE;
 
 pub const LIMIT: usize = IDENTIFIER + 4;
@@ -63,6 +64,7 @@ pub fn first_byte(k: Mark) -> u8
     match k {
         Mark::PL => b'P',
         Mark::RS => b'R',
+        Mark::RH => b'R',
         Mark::LB => b'L',
         Mark::TK => b'T',
     }
@@ -74,8 +76,31 @@ pub fn second_byte(k: Mark) -> u8
     match k {
         Mark::PL => b'L',
         Mark::RS => b'S',
+        Mark::RH => b'H',
         Mark::LB => b'B',
         Mark::TK => b'K',
+    }
+}
+
+// "In a file a held resource has mark RH in place of RS": the mark of a resource of such a kind, and the mark that may stand where one is due.
+pub fn kind_mark(kind: Kind) -> Mark
+    ensures { λ r. ⌜ r ≡ kindMark kind ⌝ }
+{
+    match kind {
+        Kind::Plain => Mark::RS,
+        Kind::Held => Mark::RH,
+    }
+}
+
+pub fn in_place_of(due: Mark) -> Mark
+    ensures { λ r. ⌜ r ≡ inPlaceOf due ⌝ }
+{
+    match due {
+        Mark::PL => Mark::PL,
+        Mark::RS => Mark::RH,
+        Mark::RH => Mark::RH,
+        Mark::LB => Mark::LB,
+        Mark::TK => Mark::TK,
     }
 }
 

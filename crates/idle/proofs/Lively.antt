@@ -11,6 +11,7 @@ use Rattle.integers.proofs.Tests.{clash, false-in, or-first, or-second, and-off
 use Rattle.plan.specs.declared.Task.{Task}
 use Rattle.plan.specs.Sets.{only, atMostOne}
 use Rattle.plan.proofs.Sets.{at-most-one-only}
+use Rattle.rules.specs.Frame.{Floor}
 use Rattle.rules.specs.Step.{running, sure, needed, barred, shut}
 use Rattle.rules.proofs.TaskDay.{running-is}
 use Rattle.rules.proofs.Untouched.{Untouched}
@@ -35,7 +36,7 @@ module _ (t : Task) (dull : lively t ≡ false) where
   dull-sure r i = rw (dull-only r)
 
   -- so where it is not needed, no rule touches it
-  pub dull-untouched : (r : ℕ) (limit : ℤ → ℤ) (ts : List Task) (i : ℤ) → needed r limit ts t i ≡ false → Untouched r limit ts t i
+  pub dull-untouched : (r : ℕ) (limit : Floor) (ts : List Task) (i : ℤ) → needed r limit ts t i ≡ false → Untouched r limit ts t i
   unfolding shut
   dull-untouched r limit ts i n =
       record {

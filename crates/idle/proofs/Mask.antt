@@ -6,7 +6,6 @@ use Prim.Native.Nat.{ℕ, zero, suc, _-_, _/_, _%_, _^_, _≤_, _<_}
 use native.Mathlib.Nat.{not-suc-le-zero, le-of-suc-le-suc, two-pow-succ}
 use native.Mathlib.Omega.{arith}
 use lib.Dec.{eqb}
-use lib.IntN.{ℤ}
 use Rattle.integers.specs.Tests.{if, and, or, any}
 use Rattle.integers.specs.Lists.Each.{nothing, also}
 use Rattle.integers.proofs.Tests.{clash, by-cases, false-in, same-test, and-first, and-second, and-in, or-none, not-out}
@@ -17,7 +16,7 @@ use Rattle.plan.specs.declared.Sense.the-variants.{AtLeast}
 use Rattle.plan.specs.declared.Checked.the-variants.{Accepted}
 use Rattle.plan.specs.Sets.{has, only, atMostOne, without, union, differing}
 use Rattle.plan.proofs.Sets.{without-keeps, eqb-true, eqb-in, only-is, only-in, alone-only, at-most-one-only, same-set, union-has, differing-has}
-use Rattle.rules.specs.Frame.{Frame, resourceCount, limitOn}
+use Rattle.rules.specs.Frame.{Frame, resourceCount, floorAt, Floor}
 use Rattle.rules.specs.Balance.{Outcome, each, balance}
 use Rattle.rules.specs.Balance.Outcome.{Plan}
 use Rattle.rules.specs.Step.{shortfall, narrowed, listedDays, atLeastStep, senseStep, resourceStep}
@@ -135,10 +134,10 @@ untouched f r away stays (more-subs {u} {t} {us} {ts} s subs) (also l k) e h =
     same q (not-there a b) p = cc (away t a l, p)
     same q (lost-others e a) p = clash (sameTask t u) (same-again t u e (stays t u p (a .has) (a .shares))) q
 
-step-untouched : (r : ℕ) (limit : ℤ → ℤ) (ts us : List Task) → Subs us ts → Lives ts → atLeastStep r limit ts ≡ Plan us → has (touchedBy ts us) r ≡ false → us ≡ ts
+step-untouched : (r : ℕ) (limit : Floor) (ts us : List Task) → Subs us ts → Lives ts → atLeastStep r limit ts ≡ Plan us → has (touchedBy ts us) r ≡ false → us ≡ ts
 unfolding atLeastStep
 step-untouched r limit ts us s l e h =
-    untouched (narrowed r limit ts (listedDays ts)) r (λ t a v. narrowed-away r limit ts t a (listedDays ts) v) stays s l
+    untouched (narrowed r limit ts (listedDays ts)) r (λ t a v. narrowed-away r t a limit ts (listedDays ts) v) stays s l
     (if-plan (any (shortfall r limit ts) (listedDays ts)) (each (narrowed r limit ts (listedDays ts)) ts) us e .1) h
   where
     stays : (t u : Task) → narrowed r limit ts (listedDays ts) t ≡ Kept u → has (u .set) r ≡ true → only (u .set) r ≡ false → u .set ≡ t .set
@@ -147,7 +146,7 @@ step-untouched r limit ts us s l e h =
         k ∙ set-stayed r limit ts (listedDays ts) t (subst (λ (x : ℕ). has x r ≡ true) k a) (subst (λ (x : ℕ). only x r ≡ false) k o)
 
 -- ---- the step of a plan at least
-pub at-least-step : (f : Frame) → f .sense ≡ AtLeast → (r : ℕ) (ts : List Task) → resourceStep f r ts ≡ atLeastStep r (limitOn f r) ts
+pub at-least-step : (f : Frame) → f .sense ≡ AtLeast → (r : ℕ) (ts : List Task) → resourceStep f r ts ≡ atLeastStep r (floorAt f r) ts
 unfolding resourceStep senseStep
 at-least-step f least r ts = rw least
 
@@ -156,7 +155,7 @@ module _ (f : Frame) (least : f .sense ≡ AtLeast) (ts us : List Task) (a : che
   idle-after : (mask : ℕ) → Idle mask f ts → (r : ℕ) → r < resourceCount f → has mask r ≡ false → has (touchedBy ts us) r ≡ false → resourceStep f r us ≡ Plan us
   idle-after mask idle r h c t =
       let seen = beside-of r (k .inside) (check-live f us (k .accepted)) t in
-      at-least-step f least r us ∙ step-elsewhere r (limitOn f r) ts us seen (sym (at-least-step f least r ts) ∙ idle r h c)
+      at-least-step f least r us ∙ step-elsewhere r (floorAt f r) ts us seen (sym (at-least-step f least r ts) ∙ idle r h c)
 
   changed-after : (before : Bool) → or before (not (eqb (touchedBy ts us) 0)) ≡ or before (not (sameTasks ts us))
   changed-after before = ap (λ (b : Bool). or before (not b)) (sym (touched-tells ts us (check-live f ts a) (subs-length (k .inside))))
@@ -178,7 +177,7 @@ module _ (f : Frame) (least : f .sense ≡ AtLeast) (ts us : List Task) (a : che
             by-cases (eqb p r)
             (λ q.
             let same = eqb-true p r q in
-            let still = step-untouched r (limitOn f r) ts us (k .inside) (check-live f ts a) (sym (at-least-step f least r ts) ∙ e) (rw same at (n .1)) in
+            let still = step-untouched r (floorAt f r) ts us (k .inside) (check-live f ts a) (sym (at-least-step f least r ts) ∙ e) (rw same at (n .1)) in
             rw (same, still) (subst (λ (x : List Task). resourceStep f r ts ≡ Plan x) still e))
             (λ q.
             idle-after mask idle p h

@@ -22,6 +22,14 @@ module _ {A : Type 0} where
   in-any q {x} (head {xs}) e = any-first q x xs e
   in-any q (tail {y} {xs} k) e = any-later q y xs (in-any q k e)
 
+  -- one that passes a test
+  pub any-in : (q : A → Bool) (xs : List A) → any q xs ≡ true → (x : A) × In x xs × (q x ≡ true)
+  unfolding any
+  any-in q [] h = clash false h refl
+  any-in q (x ∷ xs) h =
+      by-cases (q x) (λ e. (x, head, e))
+      (λ e. let p = any-in q xs (sym (or-left (q x) (any q xs) e) ∙ h) in (p .0, tail (p .1), p .2))
+
   pub all-members : (p : A → Bool) (xs : List A) → ((x : A) → In x xs → p x ≡ true) → all p xs ≡ true
   unfolding all
   all-members p [] f = refl

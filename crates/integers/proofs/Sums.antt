@@ -27,7 +27,7 @@ module _ {A : Type 0} (p : A → Bool) where
   abbrev pub one : A → ℤ
   one x = if (p x) (pos 1) (pos 0)
 
-  ones-least : (xs : List A) → pos 0 ≤ℤ sumOf one xs
+  pub ones-least : (xs : List A) → pos 0 ≤ℤ sumOf one xs
   unfolding sumOf
   ones-least [] = omega z
   ones-least (x ∷ xs) =

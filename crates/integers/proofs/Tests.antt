@@ -192,6 +192,11 @@ module _ {A : Type 0} where
   filter-same p q h [] = refl
   filter-same p q h (x ∷ xs) = rw (h x, filter-same p q h xs)
 
+  pub any-filter : (p q : A → Bool) (xs : List A) → any p (filter q xs) ≡ any (λ x. and (q x) (p x)) xs
+  unfolding any filter
+  any-filter p q [] = refl
+  any-filter p q (x ∷ xs) = by-cases (q x) (λ e. rw e (ap (or (p x)) (any-filter p q xs))) (λ e. rw e (any-filter p q xs))
+
   pub filter-none : (p : A → Bool) → ((x : A) → p x ≡ false) → (xs : List A) → filter p xs ≡ []
   unfolding filter
   filter-none p h [] = refl

@@ -4,4 +4,5 @@ pub mod Tests
 pub mod Lists
 pub mod Sums
 pub mod Hull
+pub mod Least
 pub mod Ends

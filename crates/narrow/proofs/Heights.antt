@@ -18,6 +18,7 @@ use Rattle.plan.specs.declared.Power.{Power}
 use Rattle.plan.specs.declared.PowerSpan.{PowerSpan}
 use Rattle.plan.specs.Powers.{powersOf}
 use Rattle.plan.specs.Sets.{only}
+use Rattle.rules.specs.Frame.{Floor}
 use Rattle.rules.specs.Step.{possible, running, sure, total, others, keepsHeight, listedDays}
 use Rattle.rules.proofs.Days.{every-day}
 use Rattle.rules.proofs.Live.{Live}
@@ -32,7 +33,7 @@ use Rattle.searches.proofs.Parts.{lt-cases}
 use Rattle.narrow.specs.Ready.{Known, runningDays, Lifted}
 
 -- ---- a day of the stretches on which the task is running, and its slack
-module _ (r : ℕ) (limit : ℤ → ℤ) (ts : List Task) (t : Task) (ss : List Stretch) (known : Known r limit ts t ss) where
+module _ (r : ℕ) (limit : Floor) (ts : List Task) (t : Task) (ss : List Stretch) (known : Known r limit ts t ss) where
   pub record RunningDay (x : ℤ) : Type 0 where
     pub day : ℤ
     pub running : running r day t ≡ true
@@ -47,7 +48,7 @@ module _ (r : ℕ) (limit : ℤ → ℤ) (ts : List Task) (t : Task) (ss : List 
   day-slack i h p =
       record { at = p .at; inside = p .inside; day = i; among = h; on = p .holds; is = known .tells .exact (p .at) (p .inside) .slack i (p .holds) }
 
-module _ (r : ℕ) (limit : ℤ → ℤ) (ts : List Task) (t : Task) (ss : List Stretch) (known : Known r limit ts t ss) (live : Live t) where
+module _ (r : ℕ) (limit : Floor) (ts : List Task) (t : Task) (ss : List Stretch) (known : Known r limit ts t ss) (live : Live t) where
   abbrev top : ℤ
   top = t .height .high .0
 
@@ -59,7 +60,7 @@ module _ (r : ℕ) (limit : ℤ → ℤ) (ts : List Task) (t : Task) (ss : List 
 
   -- what a sure day asks for
   abbrev asked : ℤ → ℤ
-  asked i = limit i -ℤ others r ts t i
+  asked i = limit .on i -ℤ others r ts t i
 
   height-kept : (v : ℤ) → ((i : ℤ) → sure r i t ≡ true → asked i ≤ℤ v) → keeps v ≡ true
   unfolding keepsHeight
@@ -88,8 +89,8 @@ module _ (r : ℕ) (limit : ℤ → ℤ) (ts : List Task) (t : Task) (ss : List 
       (λ i s.
       let e = lifted-is r limit ts t i live s in
       let g = no-short r limit ts t live (known .among) (known .enough) i s in
-      let y = total r ts i -ℤ limit i in
-      omega (z, -z (total r ts i) (limit i), -z top y))
+      let y = total r ts i -ℤ limit .on i in
+      omega (z, -z (total r ts i) (limit .on i), -z top y))
 
   -- so a height of one value stays
   pub height-flat : top ≤ℤ low → left keeps (powersOf (t .height)) ≡ Some (powersOf (t .height))
@@ -106,8 +107,8 @@ module _ (r : ℕ) (limit : ℤ → ℤ) (ts : List Task) (t : Task) (ss : List 
         let d = slack-day r limit ts t ss known x (l .met e) in
         let i = d .day in
         let g = no-short r limit ts t live (known .among) (known .enough) i (sure-in r i t alone (d .running)) in
-        let s : x ≡ total r ts i -ℤ limit i = d .slack in
-        omega (z, -z (total r ts i) (limit i)))
+        let s : x ≡ total r ts i -ℤ limit .on i = d .slack in
+        omega (z, -z (total r ts i) (limit .on i)))
         (λ e. omega (z, -z top low, live .height))
 
     lifts : (v : ℤ) → low ≤ℤ v → (top -ℤ x) ≤ℤ v → keeps v ≡ true

@@ -22,6 +22,7 @@ use Rattle.plan.specs.Powers.{powersOf, powerSpanOf}
 use Rattle.plan.specs.Tasks.{Bounded}
 use Rattle.plan.proofs.Sets.{only-has}
 use Rattle.plan.specs.Sets.{has, only, without}
+use Rattle.rules.specs.Frame.{Floor}
 use Rattle.rules.specs.Step.{possible, sure, needed, barred, shut, listedDays}
 use Rattle.rules.specs.Step.{orRanOut, keepsOrigin, keepsDuration, keepsEnd, keepsHeight, keptSet, narrowed}
 use Rattle.rules.proofs.Live.{Live}
@@ -59,7 +60,7 @@ together u =
     by-cases (emptySpan (u .duration)) (λ b. rw (a, b))
     (λ b. by-cases (emptySpan (u .end)) (λ c. rw (a, b, c)) (λ c. rw (a, b, c))))
 
-module _ (r : ℕ) (limit : ℤ → ℤ) (ts : List Task) (t : Task) where
+module _ (r : ℕ) (limit : Floor) (ts : List Task) (t : Task) where
   -- what each of its values leaves
   record Leaves (u : Task) : Type 0 where
     origin : left (keepsOrigin r limit ts (listedDays ts) t) (daysOf (t .origin)) ≡ leftOf (u .origin)
@@ -81,7 +82,7 @@ needs-height : (r : ℕ) (s : Days) (t : Task) → withNeeds r s t .height ≡ t
 unfolding withNeeds
 needs-height r s t = if-case (λ (u : Task). u .height ≡ t .height) (ltZ (s .from .0) (t .end .high .0)) _ t (λ e. refl) (λ e. refl)
 
-module _ (r : ℕ) (limit : ℤ → ℤ) (ts : List Task) (t : Task) (ss : List Stretch) (b : Bounded t) (known : Known r limit ts t ss) where
+module _ (r : ℕ) (limit : Floor) (ts : List Task) (t : Task) (ss : List Stretch) (b : Bounded t) (known : Known r limit ts t ss) where
   abbrev dl : ℤ
   dl = t .duration .low .0
 
@@ -200,7 +201,7 @@ module _ (r : ℕ) (limit : ℤ → ℤ) (ts : List Task) (t : Task) (ss : List 
         })
 
 -- ---- no rule touches it
-module _ (r : ℕ) (limit : ℤ → ℤ) (ts : List Task) (t : Task) (live : Live t) where
+module _ (r : ℕ) (limit : Floor) (ts : List Task) (t : Task) (live : Live t) where
   pub quiet-page : ((i : ℤ) → Quiet r limit ts t i) → Kept t ≡ narrowed r limit ts (listedDays ts) t
   quiet-page f =
       sym (narrowed-untouched r limit ts (listedDays ts) t (λ i. let q = f i in untouched-unbarred r limit ts t i (q .unneeded) (q .unbarred) (q .unlifted)) live)

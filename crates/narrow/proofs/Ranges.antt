@@ -17,6 +17,7 @@ use Rattle.integers.proofs.Hull.{within-is, within-in, left-is, left-none}
 use Rattle.plan.specs.declared.Task.{Task}
 use Rattle.plan.specs.declared.Span.{Span}
 use Rattle.plan.specs.Days.{day, daysOf, cutTo, cutBelow, cutAbove}
+use Rattle.rules.specs.Frame.{Floor}
 use Rattle.rules.specs.Step.{possible, needed, shut, keepsOrigin, keepsDuration, keepsEnd, listedDays}
 use Rattle.rules.proofs.Days.{every-day}
 use Rattle.rules.proofs.TaskDay.{no-need, no-shut}
@@ -126,7 +127,7 @@ as-ends =
       down = λ d a b h. omega (z, h, -z a d, -z b d);
     }
 
-module _ (r : ℕ) (limit : ℤ → ℤ) (ts : List Task) (t : Task) (k : In t ts) where
+module _ (r : ℕ) (limit : Floor) (ts : List Task) (t : Task) (k : In t ts) where
   abbrev n : ℤ → Bool
   n = needed r limit ts t
 

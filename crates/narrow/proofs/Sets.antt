@@ -13,6 +13,7 @@ use Rattle.plan.specs.declared.Task.{Task}
 use Rattle.plan.specs.Tasks.{Bounded}
 use Rattle.plan.specs.Sets.{has, only, without}
 use Rattle.plan.proofs.Sets.{only-is}
+use Rattle.rules.specs.Frame.{Floor}
 use Rattle.rules.specs.Step.{possible, running, sure, needed, barred, neededSet, keptSet, listedDays}
 use Rattle.rules.proofs.Days.{listed}
 use Rattle.rules.proofs.TaskDay.{possible-is, running-possible, sure-only, sure-in, needed-possible}
@@ -27,7 +28,7 @@ use Rattle.narrow.specs.Ready.{Known, possibleDays, runningDays, withNee
 use Rattle.narrow.proofs.ToldDays.{here-live, unsure}
 use Rattle.narrow.proofs.Heights.{slack-day, day-slack}
 
-module _ (r : ℕ) (limit : ℤ → ℤ) (ts : List Task) (t : Task) (ss : List Stretch) (b : Bounded t) (known : Known r limit ts t ss) where
+module _ (r : ℕ) (limit : Floor) (ts : List Task) (t : Task) (ss : List Stretch) (b : Bounded t) (known : Known r limit ts t ss) where
   -- a possible day that passes a test is among those listed
   listed-any : (p : ℤ → Bool) (i : ℤ) → possible r i t ≡ true → p i ≡ true → any p (listedDays ts) ≡ true
   listed-any p i h e =

@@ -14,6 +14,7 @@ use Rattle.plan.specs.declared.Task.{Task}
 use Rattle.plan.specs.Sets.{has, only}
 use Rattle.plan.specs.Tasks.{Bounded}
 use Rattle.plan.proofs.Sets.{only-has, has-not-zero}
+use Rattle.rules.specs.Frame.{Floor}
 use Rattle.rules.specs.Step.{possible, running, sure, needed, barred, shut}
 use Rattle.rules.proofs.Live.{Live, live-bounded}
 use Rattle.stretches.specs.declared.Stretch.{Stretch}
@@ -41,7 +42,7 @@ told-by ss i p b each off =
     and-second (onDay i (getD ss (f .at) noStretch)) b (sym (each (f .at) (f .inside)) ∙ f .holds))
 
 -- ---- THE PAGE'S DAYS
-module _ (r : ℕ) (limit : ℤ → ℤ) (ts : List Task) (t : Task) (ss : List Stretch) (b : Bounded t) (known : Known r limit ts t ss) where
+module _ (r : ℕ) (limit : Floor) (ts : List Task) (t : Task) (ss : List Stretch) (b : Bounded t) (known : Known r limit ts t ss) where
   abbrev tells : Tells r limit ts t ss
   tells = known .tells
 

@@ -13,6 +13,7 @@ use Rattle.integers.proofs.Tests.{clash, by-cases, false-in}
 use Rattle.integers.proofs.Lists.{any-place, in-at, in-any}
 use Rattle.plan.specs.declared.Task.{Task}
 use Rattle.plan.specs.declared.Narrowed.the-variants.{Kept}
+use Rattle.rules.specs.Frame.{Floor}
 use Rattle.rules.specs.Step.{possible, narrowed, listedDays}
 use Rattle.rules.proofs.Live.{Live}
 use Rattle.rules.proofs.TaskDay.{possible-is}
@@ -43,7 +44,7 @@ ordered-drop (suc n) [] h = h
 ordered-drop (suc n) (s ∷ ss) h = ordered-drop n ss (ordered-rest s ss h)
 
 -- ---- the stretches outside a .. b - 1 hold no possible day of the task
-module _ (r : ℕ) (limit : ℤ → ℤ) (ts : List Task) (t : Task) (live : Live t) (ss : List Stretch) (tells : Tells r limit ts t ss)
+module _ (r : ℕ) (limit : Floor) (ts : List Task) (t : Task) (live : Live t) (ss : List Stretch) (tells : Tells r limit ts t ss)
     (a b : ℕ) (over : Over ss (t .origin .low .0) a) (ahead : Ahead ss (t .end .high .0) b) where
   -- so a day on which every stretch is one of those is quiet
   quiet-outside : (i : ℤ) → ((k : ℕ) → k < length ss → onDay i (getD ss k noStretch) ≡ true → a ≤ k → k < b → ⊥) → Quiet r limit ts t i

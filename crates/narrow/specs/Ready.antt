@@ -21,6 +21,7 @@ use Rattle.plan.specs.Days.{daysOf, emptySpan, cutTo}
 use Rattle.plan.specs.Powers.{power}
 use Rattle.plan.specs.Sets.{setBits, only, without}
 use Rattle.plan.specs.Tasks.{Bounded}
+use Rattle.rules.specs.Frame.{Floor}
 use Rattle.rules.specs.Step.{shortfall, listedDays, narrowed}
 use Rattle.stretches.specs.declared.Stretch.{Stretch}
 use Rattle.stretches.specs.Tells.{Tells}
@@ -35,14 +36,14 @@ pub record Ready (r : ℕ) (t : Task) : Type 0 where
   pub fits : Bounded t
 
 -- what a caller knows of a profile and of the list that it was made from
-pub record Known (r : ℕ) (limit : ℤ → ℤ) (ts : List Task) (t : Task) (ss : List Stretch) : Type 0 where
+pub record Known (r : ℕ) (limit : Floor) (ts : List Task) (t : Task) (ss : List Stretch) : Type 0 where
   pub tells : Tells r limit ts t ss
   pub among : In t ts
   pub enough : any (shortfall r limit ts) (listedDays ts) ≡ false
 
 -- THE PROMISE: for every limit and list of tasks that the stretches tell of, what the page leaves of the task
 abbrev pub ByPage : ℕ → Task → List Stretch → Narrowed → Type 0
-ByPage r t ss out = (limit : ℤ → ℤ) (ts : List Task) → Known r limit ts t ss → out ≡ narrowed r limit ts (listedDays ts) t
+ByPage r t ss out = (limit : Floor) (ts : List Task) → Known r limit ts t ss → out ≡ narrowed r limit ts (listedDays ts) t
 
 -- the task has a possible day
 abbrev pub HasDay : Task → Type 0

@@ -44,7 +44,8 @@ pub fn resource_step(
 {
     let k = r as u64;
     let limit = rows::limit_at(q, r);
-    let o = step::step(s, b, k, limit, keys, spare, ss);
+    let kind = rows::kind_at(q, r);
+    let o = step::step(s, b, k, limit, kind, keys, spare, ss);
     Passed {
         ok: o.ok,
         changed: some_touched(p.changed, o.touched),

@@ -5,6 +5,7 @@ use Rattle.integers.specs.Hull.{range}
 use Rattle.integers.specs.Ends.{InEnds}
 use Rattle.plan.specs.declared.Task.{Task}
 use Rattle.plan.specs.declared.Resource.{Resource}
+use Rattle.plan.specs.declared.Kind.the-variants.{Plain}
 use Rattle.plan.specs.declared.Band.{Band}
 use Rattle.plan.specs.Days.{day, daysOf, spanOf, dayEnds, durationEnds}
 use Rattle.plan.specs.Powers.{power, powersOf, powerSpanOf, powerEnds}
@@ -26,7 +27,7 @@ noTask =
     record { set = 0; origin = spanOf none; duration = spanOf none; end = spanOf none; height = powerSpanOf none }
 
 unfoldable pub noResource : Resource
-noResource = record { id = pos 0; limit = power (pos 0) }
+noResource = record { id = pos 0; limit = power (pos 0); kind = Plain }
 
 unfoldable pub noBand : Band
 noBand = record { place = 0; from = day (pos 0); limit = power (pos 0) }

@@ -306,10 +306,17 @@ pub struct Task {
     pub height: PowerSpan,
 }
 
-// "Each has an identifier (any signed 32-bit number, each different) and a limit."
+// "A resource gets a kind, plain or held": on a held one the limit must hold between the tasks too.
+pub enum Kind {
+    Plain,
+    Held,
+}
+
+// "Each has an identifier (any signed 32-bit number, each different) and a limit"; and a kind.
 pub struct Resource {
     pub id: i32,
     pub limit: Power,
+    pub kind: Kind,
 }
 
 // "resource place (2 bytes), first day (4), limit (4)": from that day on the resource at that place has this limit.

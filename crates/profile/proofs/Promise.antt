@@ -5,7 +5,7 @@ use mathlib.Core.List.{List, _++_}
 use Prim.Native.Nat.{ℕ, _≤_, _<_}
 use native.Mathlib.Omega.{arith}
 use lib.Dec.{ltb}
-use lib.IntN.{ℤ, pos, negℤ, _+ℤ_, _-ℤ_, +ℤ-idl, +ℤ-idr}
+use lib.IntN.{ℤ, pos, negℤ, _+ℤ_, _-ℤ_, +ℤ-idl}
 use lib.ListN.{length, take, getD}
 use lib.Seq.{length-take-le, getD-take}
 use lib.Signed.{_≤ℤ_, _<ℤ_, leZ, ltZ}
@@ -23,12 +23,12 @@ use Rattle.integers.proofs.Sums.{sum-append}
 use Rattle.plan.specs.declared.Task.{Task}
 use Rattle.plan.specs.Sets.{has, only}
 use Rattle.plan.specs.Tasks.{Bounded}
-use Rattle.plan.proofs.Sets.{has-not-zero, only-has}
+use Rattle.plan.proofs.Sets.{only-has}
+use Rattle.rules.specs.Frame.{Floor}
 use Rattle.rules.specs.Step.{possible, running, sure, total, counts, shortfall, listedDays}
-use Rattle.rules.proofs.Days.{listed}
-use Rattle.rules.proofs.Live.{live-bounded}
-use Rattle.rules.proofs.TaskDay.{possible-is, sure-only, sure-in, sure-possible}
-use Rattle.rules.proofs.Unlisted.{counts-in}
+use Rattle.rules.proofs.Days.{between}
+use Rattle.rules.proofs.TaskDay.{possible-is, sure-in}
+use Rattle.rules.proofs.Counted.{Counted, counted, begun-by, begun-only, ends-after, unended-only}
 use Rattle.sorting.specs.Order.{Sorted}
 use Rattle.sorting.proofs.Every.{every}
 use Rattle.stretches.specs.declared.Stretch.{Stretch}
@@ -40,7 +40,7 @@ use Rattle.events.specs.Keys.{dayOf, powerOf, sureOf}
 use Rattle.events.specs.Events.{surely, keysOf}
 use Rattle.events.specs.Extremes.{extremesOf, noExtremes}
 use Rattle.events.proofs.Spans.{surely-in}
-use Rattle.events.proofs.Adds.{upTo, sureOne, keys-power, keys-sure, counts-is}
+use Rattle.events.proofs.Adds.{upTo, sureOne, keys-power, keys-sure}
 use Rattle.events.proofs.Days.{onDays, sure-days}
 use Rattle.events.proofs.Covers.{reachOf, extremes-over, extremes-cover, keys-within}
 use Rattle.profile.specs.declared.Level.{Level}
@@ -82,20 +82,20 @@ same-run r t u o days i on =
     (λ q. never q i ∙ sym (never q (u .from .0)))
 
 -- ---- a day falls short where the slack that is tight is negative
-short-tight : (r : ℕ) (limit : ℤ → ℤ) (ts : List Task) (i : ℤ) → shortfall r limit ts i ≡ ltZ (tightOn r limit ts i) (pos 0)
+short-tight : (r : ℕ) (limit : Floor) (ts : List Task) (i : ℤ) → shortfall r limit ts i ≡ ltZ (tightOn r limit ts i) (pos 0)
 unfolding shortfall tightOn slackOn
 short-tight r limit ts i =
     let x = total r ts i in
-    let y = limit i in
-    by-cases (counts r ts i)
+    let y = limit .on i in
+    by-cases (counts r limit ts i)
     (λ c.
     rw c
     (same-test (ltZ x y) (ltZ (x -ℤ y) (pos 0)) (λ e. ltZ-in (x -ℤ y) (pos 0) (omega (z, -z x y))) (λ e. ltZ-in x y (omega (z, -z x y)))))
     (λ c. rw c)
 
 -- ---- the promise, for tasks within their ends, changes that give each day its limit, and the keys of both in rising order
-module _ (r : ℕ) (limit : ℤ → ℤ) (x : ℤ) (cs : List ℕ) (ts : List Task) (bs : Each Bounded ts)
-    (turns : Turns (reachOf r (extremesOf r noExtremes ts)) limit x cs) (ls : List ℕ) (s : Sorted (keysOf r ts ++ cs) ls) where
+module _ (r : ℕ) (limit : Floor) (x : ℤ) (cs : List ℕ) (ts : List Task) (bs : Each Bounded ts)
+    (turns : Turns r ts (reachOf r (extremesOf r noExtremes ts)) limit x cs) (ls : List ℕ) (s : Sorted (keysOf r ts ++ cs) ls) where
   abbrev here : Extremes
   here = extremesOf r noExtremes ts
 
@@ -131,14 +131,13 @@ module _ (r : ℕ) (limit : ℤ → ℤ) (x : ℤ) (cs : List ℕ) (ts : List Ta
         let t = total r ts i in
         let c = sumOf (upTo powerOf i) cs in
         rw (s .sums (upTo powerOf i), sum-append (upTo powerOf i) (keysOf r ts) cs, keys-power r i ts bs)
-        (omega (z, turns .adds i from to, ~z x, ~z (limit i), +z (negℤ x) c, +z t c, +z (negℤ x) (t +ℤ c), -z t (limit i)))
+        (omega (z, turns .adds i from to, ~z x, ~z (limit .on i), +z (negℤ x) c, +z t c, +z (negℤ x) (t +ℤ c), -z t (limit .on i)))
 
-    counts-here : ltZ (pos 0) (levelOn start ls i .sure .0) ≡ counts r ts i
+    counts-here : ltZ (pos 0) (levelOn start ls i .sure .0) ≡ counts r limit ts i
     unfolding levelOn
     counts-here =
-        let u = sumOf (sureOne r i) ts in
-        rw (s .sums (upTo sureOf i), sum-append (upTo sureOf i) (keysOf r ts) cs, keys-sure r i ts bs, turns .sures i, +ℤ-idr u, +ℤ-idl u)
-        (sym (counts-is r i ts))
+        let u = sumOf (sureOne r i) ts +ℤ sumOf (upTo sureOf i) cs in
+        rw (s .sums (upTo sureOf i), sum-append (upTo sureOf i) (keysOf r ts) cs, keys-sure r i ts bs, +ℤ-idl u) (turns .counted i)
 
     tight-is : tightIn (levelOn start ls i) ≡ tightOn r limit ts i
     unfolding tightIn tightOn
@@ -159,22 +158,17 @@ module _ (r : ℕ) (limit : ℤ → ℤ) (x : ℤ) (cs : List ℕ) (ts : List Ta
       record { same = λ o i e. same-run r t u o days i e }
 
   -- ---- a day in no stretch
-  module _ {t : Task} (k : In t ts) (i : ℤ) (off : any (onDay i) told ≡ false) where
-    calm : possible r i t ≡ true → (here .bar .0 ≤ℤ slackOn r limit ts i) × (here .lift .0 ≤ℤ tightOn r limit ts i)
-    calm p =
-        let d = possible-is r i t p in
-        let c = extremes-cover r noExtremes k (d .among) in
-        let from : here .low .0 ≤ℤ i = omega (z, c .low) in
-        let to : i <ℤ here .high .0 = omega (z, c .high) in
-        let g = spread .calm i from to off in
-        (rw (slack-is i from to) at (g .bar), rw (tight-is i from to) at (g .lift))
+  calm : (i : ℤ) → any (onDay i) told ≡ false → here .low .0 ≤ℤ i → i <ℤ here .high .0 → (here .bar .0 ≤ℤ slackOn r limit ts i) × (here .lift .0 ≤ℤ tightOn r limit ts i)
+  calm i off from to = let g = spread .calm i from to off in (rw (slack-is i from to) at (g .bar), rw (tight-is i from to) at (g .lift))
 
+  module _ {t : Task} (k : In t ts) (i : ℤ) (off : any (onDay i) told ≡ false) where
     quiet : Quiet r limit ts t i
     quiet =
         calm-quiet r limit ts (each-in bs k) i k
         (λ p.
-        let c = extremes-cover r noExtremes k (possible-is r i t p .among) in
-        let g = calm p in
+        let d = possible-is r i t p in
+        let c = extremes-cover r noExtremes k (d .among) in
+        let g = calm i off (omega (z, c .low)) (omega (z, c .high)) in
         (omega (z, c .bar, g .0), omega (z, c .lift, g .1)))
 
   pub tells : {t : Task} → In t ts → Tells r limit ts t told
@@ -187,14 +181,10 @@ module _ (r : ℕ) (limit : ℤ → ℤ) (x : ℤ) (cs : List ℕ) (ts : List Ta
       }
 
   -- ---- shortfall
-  -- a day falls short where some task is sure, and so possible
-  possible-short : (i : ℤ) → shortfall r limit ts i ≡ true → (t : Task) × In t ts × (possible r i t ≡ true)
+  -- a day falls short where it counts: between two tasks that have only r, so within the reach of all, though none may be possible then
+  short-counted : (i : ℤ) → shortfall r limit ts i ≡ true → Counted r ts i
   unfolding shortfall
-  possible-short i e =
-      let c = counts-in r i ts (and-first (counts r ts i) (ltZ (total r ts i) (limit i)) e) in
-      let t = c .0 in
-      let live = live-bounded t (each-in bs (c .1)) (has-not-zero (t .set) r (only-has (t .set) r (sure-only r i t (c .2)))) in
-      (t, c .1, sure-possible r i t live (c .2))
+  short-counted i e = counted r limit ts i (and-first (counts r limit ts i) (ltZ (total r ts i) (limit .on i)) e)
 
   tight-short : (i : ℤ) → shortfall r limit ts i ≡ true → tightOn r limit ts i <ℤ pos 0
   tight-short i e = let h = sym (short-tight r limit ts i) ∙ e in omega z
@@ -202,20 +192,34 @@ module _ (r : ℕ) (limit : ℤ → ℤ) (x : ℤ) (cs : List ℕ) (ts : List Ta
   -- a shortfall on any day is one on a listed day
   short-listed : (i : ℤ) → shortfall r limit ts i ≡ true → any (shortfall r limit ts) (listedDays ts) ≡ true
   short-listed i e =
-      let c = possible-short i e in
-      let p = possible-is r i (c .0) (c .2) in
+      let c = short-counted i e in
+      let b = begun-by r i (c .first) (c .has-begun) in
+      let g = ends-after r i (c .last) (c .goes-on) in
+      let o = each-in bs (c .first-in) .origin in
+      let f = each-in bs (c .last-in) .end in
       by-cases (any (shortfall r limit ts) (listedDays ts)) (λ a. a)
       (λ a.
-      let n = listed r (λ d. not (shortfall r limit ts d)) (c .0) ts (c .1) (not-any (shortfall r limit ts) (listedDays ts) a) i (p .late) (p .early) in
+      let n =
+      between r (λ d. not (shortfall r limit ts d)) (c .first) (c .last) ts (c .first-in) (c .last-in) (not-any (shortfall r limit ts) (listedDays ts) a) i
+      (omega z) (omega z) in
       clash (shortfall r limit ts i) e (not-out (shortfall r limit ts i) n))
 
   -- and it lies in a stretch, which is tight
   short-place : (i : ℤ) → shortfall r limit ts i ≡ true → Place (onDay i) noStretch told
   short-place i e =
-      let c = possible-short i e in
+      let c = short-counted i e in
       let t = tight-short i e in
       let o = extremes-over r noExtremes ts .lift in
-      by-cases (any (onDay i) told) (any-place (onDay i) noStretch told) (λ a. absurd (let l = calm (c .1) i a (c .2) .1 in omega z))
+      let b = begun-by r i (c .first) (c .has-begun) in
+      let g = ends-after r i (c .last) (c .goes-on) in
+      let x = extremes-cover r noExtremes (c .first-in) (only-has (c .first .set) r (begun-only r i (c .first) (c .has-begun))) in
+      let y = extremes-cover r noExtremes (c .last-in) (only-has (c .last .set) r (unended-only r i (c .last) (c .goes-on))) in
+      by-cases (any (onDay i) told) (any-place (onDay i) noStretch told)
+      (λ a.
+      absurd
+      (let l =
+      calm i a (omega (z, x .low, each-in bs (c .first-in) .origin)) (omega (z, y .high, each-in bs (c .last-in) .end)) .1 in
+      omega z))
 
   tight-at : (q : ℕ) → q < length told → (i : ℤ) → onDay i (getD told q noStretch) ≡ true → getD told q noStretch .tight .0 ≡ tightOn r limit ts i
   tight-at q h i on = exact (getD told q noStretch) (told-at q h) .tight i on
@@ -271,9 +275,9 @@ module _ (r : ℕ) (limit : ℤ → ℤ) (x : ℤ) (cs : List ℕ) (ts : List Ta
       }
 
 -- ---- as the code has them: the events and the changes in the first keys, the stretches in the first rows
-pub profiled : (r : ℕ) (limit : ℤ → ℤ) (x : ℤ) (cs : List ℕ) (ts : List Task) (ks : List ℕ) (e : Extremes) (ss : List Stretch) (m k : ℕ) →
+pub profiled : (r : ℕ) (limit : Floor) (x : ℤ) (cs : List ℕ) (ts : List Task) (ks : List ℕ) (e : Extremes) (ss : List Stretch) (m k : ℕ) →
     Each Bounded ts →
-    Turns (reachOf r e) limit x cs →
+    Turns r ts (reachOf r e) limit x cs →
     ks ≡ keysOf r ts ++ cs →
     e ≡ extremesOf r noExtremes ts →
     Sweeps e (negℤ x) ks ss m →

@@ -10,6 +10,7 @@ use Rattle.plan.specs.Sets.{setBits}
 use Rattle.plan.specs.Tasks.{mostBands, mostTasks}
 use Rattle.rules.specs.Rises.{Banded}
 use Rattle.events.specs.Events.{eventsATask}
+use Rattle.held.specs.Held.{heldEvents}
 
 -- a place of a set, a limit within its ends, bands that change it, not too many of them, and not too many tasks
 pub record Asks (r : ℕ) (limit : Power) (bs : List Band) (tasks : ℕ) : Type 0 where
@@ -19,9 +20,9 @@ pub record Asks (r : ℕ) (limit : Power) (bs : List Band) (tasks : ℕ) : Type 
   pub few-bands : length bs ≤ mostBands
   pub few : tasks ≤ mostTasks
 
--- the events that so many tasks and bands give at the most
+-- the events that so many tasks and bands give at the most, and those of a held resource's span
 abbrev pub mostEvents : ℕ → ℕ → ℕ
-mostEvents tasks bands = eventsATask * tasks + bands
+mostEvents tasks bands = eventsATask * tasks + heldEvents + bands
 
 -- keys for every event, half as many for the sort, and a stretch up to each event and one behind the last
 pub record Lent (tasks bands keys spare stretches : ℕ) : Type 0 where

@@ -9,6 +9,7 @@ use lib.Signed.{_≤ℤ_, _<ℤ_}
 use Rattle.integers.specs.Tests.{any}
 use Rattle.integers.specs.Lists.{In}
 use Rattle.plan.specs.declared.Task.{Task}
+use Rattle.rules.specs.Frame.{Floor}
 use Rattle.rules.specs.Step.{shortfall, listedDays}
 use Rattle.stretches.specs.declared.Stretch.{Stretch}
 use Rattle.stretches.specs.View.{noStretch}
@@ -26,7 +27,7 @@ pub record FirstDay (p : ℤ → Bool) (d : ℤ) : Type 0 where
   pub first : (i : ℤ) → i <ℤ d → p i ≡ false
 
 -- THE PROMISE: each task told what it needs, a shortfall told as the page has it, and its first day
-pub record Profile (r : ℕ) (limit : ℤ → ℤ) (ts : List Task) (ss : List Stretch) (short : Bool) : Type 0 where
+pub record Profile (r : ℕ) (limit : Floor) (ts : List Task) (ss : List Stretch) (short : Bool) : Type 0 where
   pub short-is : short ≡ any (shortfall r limit ts) (listedDays ts)
   pub day : (k : ℕ) → FirstShort ss k → k < length ss → FirstDay (shortfall r limit ts) (getD ss k noStretch .from .0)
   pub tells : {t : Task} → In t ts → Tells r limit ts t ss

@@ -1,7 +1,8 @@
-// One resource's days as stretches of equal days: each task that may stand there gives events, each of its bands one more, the events are
-// sorted by day, and one run over them writes a stretch up to each event's day with what has been added up by then. Only stretches that
+// One resource's days as stretches of equal days: each task that may stand there gives events, each of its bands one more, a held one's span two,
+// the events are sorted by day, and one run over them writes a stretch up to each event's day with what has been added up by then. Only stretches that
 // some rule could touch are kept. Cost: n log n for n tasks and bands; no day is visited, and no task for a stretch.
 ghost use mathlib.Core.Path.{_≡_};
+ghost use mathlib.Core.List.{_++_};
 ghost use Prim.Native.Nat.{_+_, _*_, _≤_, _<_};
 ghost use lib.IntN.{_+ℤ_};
 ghost use lib.ListN.{length, take};
@@ -11,14 +12,16 @@ ghost use mir.Val.{SFits};
 ghost use Rattle.integers.specs.Ends.{Within};
 ghost use Rattle.integers.specs.Lists.{Each};
 ghost use Rattle.plan.specs.Powers.{power, powerEnds};
+ghost use Rattle.plan.specs.Sets.{setBits};
 ghost use Rattle.plan.specs.Tasks.{mostBands, mostTasks, Bounded};
-ghost use Rattle.rules.specs.Frame.{limitFrom};
+ghost use Rattle.rules.specs.Frame.{limitFrom, floor};
 ghost use Rattle.rules.specs.Rises.{Banded};
 ghost use Rattle.rows.specs.View.{tasksOf, bandsOf};
 ghost use Rattle.stretches.specs.View.{stretchesOf};
 ghost use Rattle.events.specs.Keys.{powerOf, sureOf};
 ghost use Rattle.events.specs.Laid.{Laid};
 ghost use Rattle.levels.specs.Levels.{bandKeys};
+ghost use Rattle.held.specs.Held.{heldEvents, heldKeys};
 ghost use Rattle.profile.specs.Lent.{mostEvents, Lent, Asks};
 ghost use Rattle.profile.specs.Promise.{FirstShort, Profile};
 ghost use Rattle.profile.specs.Sweep.{changed, tightIn, stretchIn, worth, worthy, sweptFrom, Sweeps};
@@ -26,6 +29,7 @@ use events::Count;
 use events::Extremes;
 use levels::Levels;
 use plan::Day;
+use plan::Kind;
 use plan::Power;
 use rows::BandRow;
 use rows::TaskRow;
@@ -33,7 +37,9 @@ use stretches::Stretch;
 use stretches::StretchRow;
 
 // What is lent for the largest plan: keys for every event, half as many for the sort, and a stretch up to each event and one behind the last.
-pub const MOST_KEYS: usize = events::EVENTS_A_TASK * plan::MOST_TASKS + plan::MOST_BANDS;
+pub const MOST_KEYS: usize = events::EVENTS_A_TASK * plan::MOST_TASKS
+    + held::HELD_EVENTS
+    + plan::MOST_BANDS;
 
 pub const MOST_SPARE: usize = MOST_KEYS / 2;
 
@@ -199,12 +205,34 @@ fn put_levels(
     levels::put_bands(b, r, limit, e.low, e.high, keys, n)
 }
 
+// The keys of what is asked of r behind the first n: where it is held those of its span, then those of its bands; and its limit on the first day.
+fn put_floor(
+    s: &[TaskRow],
+    b: &[BandRow],
+    r: u64,
+    limit: Power,
+    kind: Kind,
+    e: Extremes,
+    keys: &mut [u64],
+    n: usize,
+) -> Levels
+    requires { ⌜ (r < setBits) × (n + heldEvents + length (now b) ≤ length (now keys)) × Banded r (bandsOf (now b)) × Within powerEnds (limit .0) ⌝ }
+    requires { ⌜ Each Bounded (tasksOf (now s)) ⌝ }
+    ensures { λ l. ⌜ Laid (now (keys .entry)) (now (keys .exit)) n (l .events) (heldKeys r kind (tasksOf (now (s .entry))) ++ bandKeys r (e .low .0) (e .high .0) (limit .0) (bandsOf (now (b .entry)))) ⌝ }
+    ensures { λ l. ⌜ l .start ≡ power (limitFrom r (limit .0) (bandsOf (now (b .entry))) (e .low .0)) ⌝ }
+    ensures { λ l. ⌜ (l .events ≤ n + heldEvents + length (now (b .entry))) × Within powerEnds (l .start .0) ⌝ }
+{
+    let m = held::put_held(s, r, kind, keys, n);
+    put_levels(b, r, limit, e, keys, m)
+}
+
 // The stretches of resource r, in ss. What is lent in keys and spare is worked in, and what it holds is of no account.
 pub fn profile(
     s: &[TaskRow],
     b: &[BandRow],
     r: u64,
     limit: Power,
+    kind: Kind,
     keys: &mut [u64],
     spare: &mut [u64],
     ss: &mut [StretchRow],
@@ -213,12 +241,12 @@ pub fn profile(
     requires { ⌜ Lent (length (now s)) (length (now b)) (length (now keys)) (length (now spare)) (length (now ss)) ⌝ }
     requires { ⌜ Each Bounded (tasksOf (now s)) ⌝ }
     ensures { λ q. ⌜ q .stretches ≤ length (now (ss .exit)) ⌝ }
-    ensures { λ q. ⌜ Profile r (limitFrom r (limit .0) (bandsOf (now (b .entry)))) (tasksOf (now (s .entry))) (take (q .stretches) (stretchesOf (now (ss .exit)))) (q .short) ⌝ }
+    ensures { λ q. ⌜ Profile r (floor kind (limitFrom r (limit .0) (bandsOf (now (b .entry))))) (tasksOf (now (s .entry))) (take (q .stretches) (stretchesOf (now (ss .exit)))) (q .short) ⌝ }
 {
     let q = events::collect(s, r, keys);
     let n = q.events;
     let e = q.extremes;
-    let l = put_levels(b, r, limit, e, keys, n);
+    let l = put_floor(s, b, r, limit, kind, e, keys, n);
     let start = l.start;
     let m = sweep_events(keys, l.events, spare, start.negated(), e, ss);
     let k = first_short(ss, m);

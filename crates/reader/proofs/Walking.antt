@@ -20,51 +20,52 @@ use Rattle.rules.proofs.Checks.{accepts, past-all}
 use Rattle.format.specs.declared.Mark.{Mark}
 use Rattle.format.specs.declared.Mark.the-variants.{PL, LB, TK}
 use Rattle.format.specs.declared.Header.{Header}
-use Rattle.format.specs.Format.{Layout, resources, bands, tasks, size, marked, numbersIn, headerNumbers, headerFrom, senseNumber, senseFrom, bandsFrom, tasksFrom, fileLength}
+use Rattle.format.specs.Format.{Layout, resources, bands, tasks, size, marked, dueIn, numbersIn, headerNumbers, headerFrom, senseNumber, senseFrom, bandsFrom, tasksFrom, fileLength}
 use Rattle.format.specs.Writing.{headerOf}
 use Rattle.format.specs.Reading.{due, eachDue, recordsIn, runDue, runIn, bandRun, eachBandDue, lookedAt, bandsDue, bandCount, bandsIn, headerIn, headerDue, frameIn, tasksIn, fileEnd, bodyDue, Read, readHeader, readBody, readAfter, readPlan}
-use Rattle.format.proofs.Records.{due-is}
+use Rattle.format.proofs.Records.{due-is, due-size, due-alone}
 use Rattle.format.proofs.Bands.{taken-in, run-is}
 use Rattle.format.proofs.Files.{Whole, whole, frame-count, tasks-count}
 use Rattle.cursor.specs.declared.Cursor.{Cursor}
 use Rattle.cursor.specs.declared.Record.{Record}
 use Rattle.cursor.specs.Handed.{cursor, recordIn, handed, recordAt, pastIn, pastAt}
-use Rattle.cursor.proofs.Due.{rest-none, stands, whole-handed, past-whole, plan-taken, resource-taken, band-taken, task-taken}
+use Rattle.cursor.proofs.Due.{rest-none, stands, whole-handed, past-whole, alone-in, resource-in, plan-taken, resource-taken, band-taken, task-taken}
 use Rattle.reader.specs.Walking.{planRecord, resourceRecord, bandRecord, taskRecord, recordsOf, HandsOut}
 
 -- ---- one record
 -- how an element is handed out, by its layout: as what kind of record, and what follows where one of that kind is handed out
 record Kind {A : Type 0} (l : Layout A) (made : A → Cursor → Record) : Type 0 where
-  pub whole : (at : ℕ) (bs : List ℕ) → recordIn (l .due) at bs ≡ made (l .from (numbersIn (l .due) bs)) (cursor (at + size (l .due)))
-  pub taken : (at : ℕ) (bs : List ℕ) {x : A} {c : Cursor} → handed at bs ≡ made x c → (due (l .due) at bs ≡ Accepted) × (x ≡ l .from (numbersIn (l .due) bs)) × (c .at ≡ at + size (l .due))
+  pub whole : (at : ℕ) (bs : List ℕ) → recordIn (dueIn (l .due) bs) at bs ≡ made (l .from (dueIn (l .due) bs) (numbersIn (l .due) bs)) (cursor (at + size (l .due)))
+  pub taken : (at : ℕ) (bs : List ℕ) {x : A} {c : Cursor} → handed at bs ≡ made x c → (due (dueIn (l .due) bs) at bs ≡ Accepted) × (x ≡ l .from (dueIn (l .due) bs) (numbersIn (l .due) bs)) × (c .at ≡ at + size (l .due))
 
 abbrev headers : Layout Header
-headers = record { mark = λ h. PL; numbers = headerNumbers; due = PL; from = headerFrom }
+headers = record { mark = λ h. PL; numbers = headerNumbers; due = PL; from = λ k. headerFrom }
 
 plan-kind : Kind headers planRecord
-plan-kind = record { whole = λ at bs. refl; taken = λ at bs e. plan-taken at bs refl e }
+plan-kind = record { whole = λ at bs. alone-in PL at bs refl; taken = λ at bs e. plan-taken at bs refl e }
 
 resource-kind : Kind resources resourceRecord
-resource-kind = record { whole = λ at bs. refl; taken = λ at bs e. resource-taken at bs refl e }
+resource-kind = record { whole = λ at bs. resource-in at bs; taken = λ at bs e. resource-taken at bs refl e }
 
 band-kind : Kind bands bandRecord
-band-kind = record { whole = λ at bs. refl; taken = λ at bs e. band-taken at bs refl e }
+band-kind = record { whole = λ at bs. alone-in LB at bs refl; taken = λ at bs e. band-taken at bs refl e }
 
 task-kind : (n : ℕ) → Kind (tasks n) taskRecord
-task-kind n = record { whole = λ at bs. refl; taken = λ at bs e. task-taken at bs refl e }
+task-kind n = record { whole = λ at bs. alone-in TK at bs refl; taken = λ at bs e. task-taken at bs refl e }
 
 -- a record that is due is handed out, and the place past it is its size further on
-due-handed-out : (k : Mark) (file : List ℕ) (at : ℕ) → due k at (drop at file) ≡ Accepted → (recordAt file at ≡ recordIn k at (drop at file)) × (pastAt file at ≡ at + size k)
+due-handed-out : (k : Mark) (file : List ℕ) (at : ℕ) → let j = dueIn k (drop at file) in due j at (drop at file) ≡ Accepted → (recordAt file at ≡ recordIn j at (drop at file)) × (pastAt file at ≡ at + size k)
 unfolding recordAt pastAt
 due-handed-out k file at d =
-    let e = whole-handed k at (drop at file) d in
-    (e, ap (pastIn at) e ∙ past-whole k at (drop at file))
+    let bs = drop at file in
+    let e = whole-handed (dueIn k bs) at bs d in
+    (e, ap (pastIn at) e ∙ past-whole (dueIn k bs) at bs ∙ ap (λ (n : ℕ). at + n) (due-size k bs))
 
 module _ {A : Type 0} {l : Layout A} {made : A → Cursor → Record} (w : Kind l made) (file : List ℕ) (to : ℕ) where
-  hands-one : (rest : List (Cursor → Record)) (at : ℕ) → due (l .due) at (drop at file) ≡ Accepted → HandsOut file (at + size (l .due)) rest to → HandsOut file at (made (l .from (numbersIn (l .due) (drop at file))) ∷ rest) to
+  hands-one : (rest : List (Cursor → Record)) (at : ℕ) → let j = dueIn (l .due) (drop at file) in due j at (drop at file) ≡ Accepted → HandsOut file (at + size (l .due)) rest to → HandsOut file at (made (l .from j (numbersIn (l .due) (drop at file))) ∷ rest) to
   hands-one rest at d h = let o = due-handed-out (l .due) file at d in rw (o .1) (o .0 ∙ w .whole at (drop at file), h)
 
-  took-one : (rest : List (Cursor → Record)) (at : ℕ) (x : A) → HandsOut file at (made x ∷ rest) to → (due (l .due) at (drop at file) ≡ Accepted) × (x ≡ l .from (numbersIn (l .due) (drop at file))) × HandsOut file (at + size (l .due)) rest to
+  took-one : (rest : List (Cursor → Record)) (at : ℕ) (x : A) → HandsOut file at (made x ∷ rest) to → let j = dueIn (l .due) (drop at file) in (due j at (drop at file) ≡ Accepted) × (x ≡ l .from j (numbersIn (l .due) (drop at file))) × HandsOut file (at + size (l .due)) rest to
   unfolding recordAt
   took-one rest at x h =
       let t = w .taken at (drop at file) (h .0) in
@@ -87,7 +88,7 @@ module _ {A : Type 0} {l : Layout A} {made : A → Cursor → Record} (w : Kind 
   hands-run rest zero at d h = subst (λ (p : ℕ). HandsOut file p rest to) (none-further at) h
   hands-run rest (suc n) at d h =
       let k = l .due in
-      let a = past-all (due k at (drop at file)) (eachDue k n (at + size k) (drop (size k) (drop at file))) d in
+      let a = past-all (due (dueIn k (drop at file)) at (drop at file)) (eachDue k n (at + size k) (drop (size k) (drop at file))) d in
       let h′ = subst (λ (p : ℕ). HandsOut file p rest to) (sym (one-further at n)) h in
       let later = hands-run rest n (at + size k) (rw (drop-drop (size k) at file) at (a .1)) h′ in
       hands-one (map made (recordsIn l n (drop (size k) (drop at file))) ++ rest) at (a .0) (rw (drop-drop (size k) at file) later)
@@ -110,8 +111,9 @@ run-within : (k : Mark) (file : List ℕ) (n at : ℕ) → at ≤ length file �
 unfolding eachDue
 run-within k file zero at h d = omega (arith, zero-mul (size k))
 run-within k file (suc n) at h d =
-    let a = past-all (due k at (drop at file)) (eachDue k n (at + size k) (drop (size k) (drop at file))) d in
-    let one = due-is k at (drop at file) (a .0) .whole in
+    let j = dueIn k (drop at file) in
+    let a = past-all (due j at (drop at file)) (eachDue k n (at + size k) (drop (size k) (drop at file))) d in
+    let one : size k ≤ length (drop at file) = rw (due-size k (drop at file)) at (due-is j at (drop at file) (a .0) .whole) in
     let r = run-within k file n (at + size k) (omega (arith, one, length-drop at file)) (rw (drop-drop (size k) at file) at (a .1)) in
     omega (arith, r, suc-mul n (size k))
 
@@ -121,8 +123,8 @@ unfolding eachDue eachBandDue bandRun
 bands-in n zero room k at bs d m l a b = (refl, absurd (omega arith))
 bands-in zero (suc most) room k at bs d m l a b = (rw m, rw m)
 bands-in (suc n) (suc most) room k at bs d m l a b =
-    let e = past-all (due LB at bs) (eachDue LB n (at + size LB) (drop (size LB) bs)) d in
-    let one = due-is LB at bs (e .0) in
+    let e = past-all (due (dueIn LB bs) at bs) (eachDue LB n (at + size LB) (drop (size LB) bs)) d in
+    let one = due-is LB at bs (rw (due-alone LB bs refl) at (e .0)) in
     let taken = taken-in room k at bs (record { whole = one .whole; few = omega arith; held = omega arith }) in
     let same : size LB + n * size LB ≡ suc n * size LB = omega (arith, suc-mul n (size LB)) in
     let m′ : marked LB (drop (n * size LB) (drop (size LB) bs)) ≡ false = rw (drop-drop (n * size LB) (size LB) bs, same) m in
@@ -135,7 +137,7 @@ unfolding marked
 unmarked n [] file at h = let end : length file ≤ at = omega (arith, h) in rw (drop-of-length-le file end)
 unmarked n (t ∷ ts) file at h =
     let o = took-one (task-kind n) file (length file) (map taskRecord ts) at t h in
-    stands TK LB (drop at file) (due-is TK at (drop at file) (o .0) .begins)
+    stands TK LB (drop at file) (due-is TK at (drop at file) (rw (due-alone TK (drop at file) refl) at (o .0)) .begins)
 
 -- ---- the sense byte
 sense-number : (s : ℕ) → s ≤ 1 → senseNumber (senseFrom s) ≡ s
@@ -191,7 +193,7 @@ module _ (file : List ℕ) (f : Frame) (ts : List Task) (w : Whole file f ts) wh
   unfolding recordsOf headerIn
   all-handed =
       rw header-same
-      (hands-one plan-kind file (length file) (map resourceRecord (frameIn h file .resources) ++ (map bandRecord (frameIn h file .bands) ++ map taskRecord (tasksIn h file))) 0 (w .first) resources-handed)
+      (hands-one plan-kind file (length file) (map resourceRecord (frameIn h file .resources) ++ (map bandRecord (frameIn h file .bands) ++ map taskRecord (tasksIn h file))) 0 (rw (due-alone PL file refl) (w .first)) resources-handed)
 
 pub read-walked : (file : List ℕ) (f : Frame) (ts : List Task) → readPlan file ≡ Read.Plan f ts → (check f ts ≡ Accepted) × HandsOut file 0 (recordsOf f ts) (length file)
 read-walked file f ts e = let w : Whole file f ts = whole e in (w .accepted, rw (w .frame, w .tasks) at (all-handed file f ts w))
@@ -217,7 +219,7 @@ module _ (file : List ℕ) (f : Frame) (ts : List Task) (ok : check f ts ≡ Acc
 
   first : (due PL 0 file ≡ Accepted) × (head ≡ headerIn file) × HandsOut file (size PL) others (length file)
   unfolding recordsOf headerIn
-  first = took-one plan-kind file (length file) others 0 head walked
+  first = rw (due-alone PL file refl) at (took-one plan-kind file (length file) others 0 head walked)
 
   listed : Taken resource-kind file (length file) (size PL) (f .resources) (map bandRecord (f .bands) ++ map taskRecord ts)
   listed = took-run resource-kind file (length file) (map bandRecord (f .bands) ++ map taskRecord ts) (f .resources) (size PL) (first .2)

@@ -7,7 +7,7 @@ use lib.IntN.{ℤ}
 use lib.ListN.{length, take, getD, set, length-map, List·getD-map}
 use Rattle.integers.proofs.Loops.{map-set, map-take}
 use Rattle.plan.specs.Tasks.{noTask, noResource, noBand}
-use Rattle.rows.specs.View.{taskOf, tasksOf, idOf, resourceOf, resourcesOf, bandOf, bandsOf}
+use Rattle.rows.specs.View.{taskOf, tasksOf, idOf, kindOf, resourceOf, resourcesOf, bandOf, bandsOf}
 
 -- ---- tasks
 pub length-tasks : (s : List (List ℤ)) → length (tasksOf s) ≡ length s
@@ -32,7 +32,7 @@ unfolding resourcesOf
 length-resources s = length-map s resourceOf
 
 pub resources-at : (s : List (List ℤ)) (i : ℕ) → getD (resourcesOf s) i noResource ≡ resourceOf (getD s i [])
-unfolding resourcesOf resourceOf idOf noResource
+unfolding resourcesOf resourceOf idOf kindOf noResource
 resources-at s i = List·getD-map resourceOf s i []
 
 pub resources-set : (s : List (List ℤ)) (i : ℕ) (r : List ℤ) → resourcesOf (set s i r) ≡ set (resourcesOf s) i (resourceOf r)

@@ -1,4 +1,4 @@
--- The view: a row of nine numbers as a task, of two as a resource, of three as a band, lists of rows as lists of these, and rows of resources
+-- The view: a row of nine numbers as a task, of three as a resource or a band, lists of rows as lists of these, and rows of resources
 -- and bands as a frame.
 use mathlib.Core.Bool.{cond}
 use mathlib.Core.List.{List, map}
@@ -8,9 +8,13 @@ use lib.Signed.{ltZ}
 use mir.Syntax.{w32, w64}
 use mir.Val.{ofZ, hbits}
 use Rattle.integers.specs.Lists.{cell}
+use Rattle.integers.specs.Tests.{if}
+use Rattle.integers.specs.Whole.{eqZ}
 use Rattle.plan.specs.declared.Task.{Task}
 use Rattle.plan.specs.declared.Power.{Power}
 use Rattle.plan.specs.declared.Resource.{Resource}
+use Rattle.plan.specs.declared.Kind.{Kind}
+use Rattle.plan.specs.declared.Kind.the-variants.{Plain, Held}
 use Rattle.plan.specs.declared.Band.{Band}
 use Rattle.plan.specs.declared.Sense.{Sense}
 use Rattle.plan.specs.declared.Sense.the-variants.{AtLeast}
@@ -47,15 +51,19 @@ idHigh = 2 ^ hbits w32 - 1
 unfoldable pub idOf : ℤ → ℤ
 idOf x = cond (ltZ x (negsuc idHigh)) (pos 0) (cond (ltZ (pos idHigh) x) (pos 0) x)
 
--- identifier and limit
+-- 0 is plain; any other cell counts as held
+unfoldable pub kindOf : ℤ → Kind
+kindOf x = if (eqZ x (pos 0)) Plain Held
+
+-- identifier, limit and kind
 unfoldable pub resourceOf : List ℤ → Resource
-resourceOf r = record { id = idOf (cell r 0); limit = power (cell r 1) }
+resourceOf r = record { id = idOf (cell r 0); limit = power (cell r 1); kind = kindOf (cell r 2) }
 
 unfoldable pub resourcesOf : List (List ℤ) → List Resource
 resourcesOf s = map resourceOf s
 
 abbrev pub withLimit : Power → Resource → Resource
-withLimit limit q = record { id = q .id; limit = limit }
+withLimit limit q = record { id = q .id; limit = limit; kind = q .kind }
 
 -- place, first day, limit; the place keeps its 64 bits
 unfoldable pub bandOf : List ℤ → Band

@@ -1,4 +1,4 @@
-// The core's lists: a task stands in a row of nine numbers, a resource in a row of two, a band in a row of three, a list is a lent slice of rows.
+// The core's lists: a task stands in a row of nine numbers, a resource or a band in a row of three, a list is a lent slice of rows.
 // Slices of rows of numbers are lent and changed in place; the view in specs/ says which tasks, resources and bands they hold.
 ghost use mathlib.Core.Path.{_≡_};
 ghost use Prim.Native.Nat.{_<_};
@@ -10,9 +10,10 @@ ghost use Rattle.plan.specs.Sets.{union};
 ghost use Rattle.plan.specs.Tasks.{noTask, noResource, noBand};
 ghost use Rattle.rules.specs.Settle.{sameRanges, sameTask};
 ghost use Rattle.rows.specs.Changes.{seenBy};
-ghost use Rattle.rows.specs.View.{taskOf, tasksOf, idOf, resourceOf, resourcesOf, withLimit, bandOf, bandsOf};
+ghost use Rattle.rows.specs.View.{taskOf, tasksOf, idOf, kindOf, resourceOf, resourcesOf, withLimit, bandOf, bandsOf};
 use plan::Band;
 use plan::Day;
+use plan::Kind;
 use plan::Power;
 use plan::PowerSpan;
 use plan::Resource;
@@ -24,8 +25,8 @@ pub const TASK_CELLS: usize = 9;
 
 pub type TaskRow = [i64; TASK_CELLS];
 
-// A row: identifier and limit.
-pub const RESOURCE_CELLS: usize = 2;
+// A row: identifier, limit and kind.
+pub const RESOURCE_CELLS: usize = 3;
 
 pub type ResourceRow = [i64; RESOURCE_CELLS];
 
@@ -140,19 +141,41 @@ fn id_in(x: i32) -> i64
     x as i64
 }
 
+// A cell as a kind, and back: 0 is plain, any other number held.
+fn kind_of(x: i64) -> Kind
+    ensures { λ r. ⌜ r ≡ kindOf x ⌝ }
+{
+    if integers::is_same(x, 0) {
+        Kind::Plain
+    } else {
+        Kind::Held
+    }
+}
+
+fn kind_in(k: Kind) -> i64
+    ensures { λ r. ⌜ kindOf r ≡ k ⌝ }
+{
+    match k {
+        Kind::Plain => 0,
+        Kind::Held => 1,
+    }
+}
+
 fn resource_of(r: ResourceRow) -> Resource
     ensures { λ q. ⌜ q ≡ resourceOf r ⌝ }
 {
     Resource {
         id: id_of(r[0]),
         limit: Power(r[1]),
+        kind: kind_of(r[2]),
     }
 }
 
 fn resource_row(q: Resource) -> ResourceRow
     ensures { λ r. ⌜ resourceOf r ≡ q ⌝ }
 {
-    [id_in(q.id), q.limit.0]
+    let kind = q.kind;
+    [id_in(q.id), q.limit.0, kind_in(kind)]
 }
 
 pub fn resource_at(s: &[ResourceRow], i: usize) -> Resource
@@ -179,13 +202,21 @@ pub fn limit_at(s: &[ResourceRow], i: usize) -> Power
     Power(s[i][1])
 }
 
-// Another limit in its place; the identifier stays as it lies.
+// The kind alone.
+pub fn kind_at(s: &[ResourceRow], i: usize) -> Kind
+    requires { ⌜ i < length (now s) ⌝ }
+    ensures { λ r. ⌜ r ≡ (getD (resourcesOf (now (s .entry))) i noResource) .kind ⌝ }
+{
+    kind_of(s[i][2])
+}
+
+// Another limit in its place; the identifier and the kind stay as they lie.
 pub fn put_limit(s: &mut [ResourceRow], i: usize, limit: Power)
     requires { ⌜ i < length (now s) ⌝ }
     ensures { λ _. ⌜ resourcesOf (now (s .exit)) ≡ set (resourcesOf (now (s .entry))) i (withLimit limit (getD (resourcesOf (now (s .entry))) i noResource)) ⌝ }
 {
     let r = s[i];
-    s[i] = [r[0], limit.0];
+    s[i] = [r[0], limit.0, r[2]];
 }
 
 fn band_of(r: BandRow) -> Band

@@ -1,8 +1,8 @@
 -- The resource step loses no allowed choice in either sense: at most goes over the negated choice.
-use mathlib.Core.Path.{_≡_, refl, ap}
+use mathlib.Core.Path.{_≡_, refl, sym, ap₂, _∙_}
 use Prim.Native.Nat.{ℕ}
 use mathlib.Core.List.{List, [], _∷_, map}
-use mathlib.Core.Bool.{true}
+use mathlib.Core.Bool.{Bool, true}
 use lib.IntN.{ℤ, _+ℤ_, negℤ}
 use lib.Signed.{leZ}
 use Rattle.integers.specs.Tests.{or, any}
@@ -14,11 +14,11 @@ use Rattle.plan.specs.declared.Sense.{Sense}
 use Rattle.plan.specs.declared.Sense.the-variants.{AtMost, AtLeast}
 use Rattle.plan.specs.Powers.{negatedPowers}
 use Rattle.rules.specs.Allowed.{Choice, covers, adds, level, meets}
-use Rattle.rules.specs.Frame.{Frame, limitOn}
-use Rattle.rules.specs.Step.{negated, senseStep, resourceStep}
+use Rattle.rules.specs.Frame.{Frame, floorAt, Floor}
+use Rattle.rules.specs.Step.{negated, negatedFloor, senseStep, resourceStep}
 use Rattle.rules.proofs.Inside.{Inside, Fit}
 use Rattle.rules.proofs.Inside.Fit.{none, more}
-use Rattle.rules.proofs.Limits.{Holds}
+use Rattle.rules.proofs.Limits.{begunBy, endsAfter, checked, Holds}
 use Rattle.rules.proofs.Stays.{PlanStays}
 use Rattle.rules.proofs.StepSound.{step-stays}
 
@@ -73,31 +73,36 @@ module _ (r : ℕ) (i : ℤ) where
       let y = sumOf (adds r i) cs in
       omega (z, +z (adds r i (negatedChoice c)) (sumOf (adds r i) (map negatedChoice cs)), +z x y, ~z x, ~z y, ~z (x +ℤ y))
 
-  any-negated : (cs : List Choice) → any (covers r i) (map negatedChoice cs) ≡ any (covers r i) cs
-  unfolding any covers
-  any-negated [] = refl
-  any-negated (c ∷ cs) = ap (or (covers r i c)) (any-negated cs)
+  any-negated : (p : Choice → Bool) → ((c : Choice) → p (negatedChoice c) ≡ p c) → (cs : List Choice) → any p (map negatedChoice cs) ≡ any p cs
+  unfolding any
+  any-negated p h [] = refl
+  any-negated p h (c ∷ cs) = ap₂ or (h c) (any-negated p h cs)
 
-module _ (r : ℕ) (limit : ℤ → ℤ) (cs : List Choice) where
-  pub holds-at-least : Holds AtMost r limit cs → Holds AtLeast r (λ i. negℤ (limit i)) (map negatedChoice cs)
+  checked-negated : (limit : Floor) (cs : List Choice) → checked r (negatedFloor limit) (map negatedChoice cs) i ≡ checked r limit cs i
+  unfolding checked begunBy endsAfter covers
+  checked-negated limit cs =
+      rw (any-negated (begunBy r i) (λ c. refl) cs, any-negated (endsAfter r i) (λ c. refl) cs, any-negated (covers r i) (λ c. refl) cs)
+
+module _ (r : ℕ) (limit : Floor) (cs : List Choice) where
+  pub holds-at-least : Holds AtMost r limit cs → Holds AtLeast r (negatedFloor limit) (map negatedChoice cs)
   unfolding meets
   holds-at-least h i a =
-      let b : leZ (level r i cs) (limit i) ≡ true = h i (rw (any-negated r i cs) at a) in
-      leZ-in (negℤ (limit i)) (level r i (map negatedChoice cs)) (omega (z, level-negated r i cs, ~z (limit i), ~z (level r i cs)))
+      let b : leZ (level r i cs) (limit .on i) ≡ true = h i (sym (checked-negated r i limit cs) ∙ a) in
+      leZ-in (negℤ (limit .on i)) (level r i (map negatedChoice cs)) (omega (z, level-negated r i cs, ~z (limit .on i), ~z (level r i cs)))
 
-  pub holds-at-most : Holds AtLeast r (λ i. negℤ (limit i)) (map negatedChoice cs) → Holds AtMost r limit cs
+  pub holds-at-most : Holds AtLeast r (negatedFloor limit) (map negatedChoice cs) → Holds AtMost r limit cs
   unfolding meets
   holds-at-most h i a =
-      let b : leZ (negℤ (limit i)) (level r i (map negatedChoice cs)) ≡ true = h i (rw (any-negated r i cs) a) in
-      leZ-in (level r i cs) (limit i) (omega (z, level-negated r i cs, ~z (limit i), ~z (level r i cs)))
+      let b : leZ (negℤ (limit .on i)) (level r i (map negatedChoice cs)) ≡ true = h i (checked-negated r i limit cs ∙ a) in
+      leZ-in (level r i cs) (limit .on i) (omega (z, level-negated r i cs, ~z (limit .on i), ~z (level r i cs)))
 
-sense-step-stays : (sense : Sense) (r : ℕ) (limit : ℤ → ℤ) (ts : List Task) (cs : List Choice) → Fit ts cs → Holds sense r limit cs → PlanStays cs (senseStep sense r limit ts)
+sense-step-stays : (sense : Sense) (r : ℕ) (limit : Floor) (ts : List Task) (cs : List Choice) → Fit ts cs → Holds sense r limit cs → PlanStays cs (senseStep sense r limit ts)
 unfolding senseStep
 sense-step-stays AtLeast r limit ts cs f h = step-stays r limit ts cs f h
 sense-step-stays AtMost r limit ts cs f h =
-    let p = step-stays r (λ i. negℤ (limit i)) (map negated ts) (map negatedChoice cs) (fit-negated f) (holds-at-least r limit cs h) in
+    let p = step-stays r (negatedFloor limit) (map negated ts) (map negatedChoice cs) (fit-negated f) (holds-at-least r limit cs h) in
     record { tasks = map negated (p .tasks); is = rw (p .is); fit = fit-back cs (p .tasks) (p .fit) }
 
-pub resource-step-stays : (f : Frame) (r : ℕ) (ts : List Task) (cs : List Choice) → Fit ts cs → Holds (f .sense) r (limitOn f r) cs → PlanStays cs (resourceStep f r ts)
+pub resource-step-stays : (f : Frame) (r : ℕ) (ts : List Task) (cs : List Choice) → Fit ts cs → Holds (f .sense) r (floorAt f r) cs → PlanStays cs (resourceStep f r ts)
 unfolding resourceStep
-resource-step-stays f r ts cs g h = sense-step-stays (f .sense) r (limitOn f r) ts cs g h
+resource-step-stays f r ts cs g h = sense-step-stays (f .sense) r (floorAt f r) ts cs g h

@@ -25,7 +25,7 @@ use Rattle.plan.specs.Days.{dayEnds}
 use Rattle.plan.specs.Powers.{powerEnds}
 use Rattle.plan.specs.Tasks.{mostBands}
 use Rattle.plan.proofs.Sets.{eqb-true, eqb-in}
-use Rattle.rules.specs.Frame.{plain, resourceAt, stands, limitFrom, limitOn}
+use Rattle.rules.specs.Frame.{unbanded, resourceAt, stands, limitFrom, limitOn}
 use Rattle.rules.specs.Calls.{earlier, bandEnds, bandFits, bandUnless, bandsAfter, bandsFit}
 use Rattle.rules.specs.Rises.{Rises, early, Banded}
 use Rattle.rules.specs.Negation.{negatedBand}
@@ -193,9 +193,9 @@ check-ends n bs h = all-ends n bs (check-all n bs h)
 
 -- ---- the limit of a day
 -- without bands it is the resource's own
-pub plain-limit : (sense : Sense) (qs : List Resource) (r : ℕ) (i : ℤ) → limitOn (plain sense qs) r i ≡ resourceAt (plain sense qs) r .limit .0
+pub unbanded-limit : (sense : Sense) (qs : List Resource) (r : ℕ) (i : ℤ) → limitOn (unbanded sense qs) r i ≡ resourceAt (unbanded sense qs) r .limit .0
 unfolding limitOn limitFrom
-plain-limit sense qs r i = refl
+unbanded-limit sense qs r i = refl
 
 -- no band has come yet
 pub none-yet : (r : ℕ) (d x i : ℤ) (bs : List Band) → Rises r d bs → i ≤ℤ d → limitFrom r x bs i ≡ x

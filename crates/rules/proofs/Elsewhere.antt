@@ -17,15 +17,17 @@ use Rattle.plan.specs.declared.Narrowed.the-variants.{Kept, RanOut}
 use Rattle.plan.specs.Days.{daysOf}
 use Rattle.plan.specs.Powers.{powersOf}
 use Rattle.plan.specs.Sets.{has, only, without}
+use Rattle.rules.specs.Frame.{Floor}
 use Rattle.rules.specs.Balance.{Outcome, andThen, each}
 use Rattle.rules.specs.Balance.Outcome.{NoPlan, Plan}
-use Rattle.rules.specs.Step.{possible, running, sure, hope, total, others, counts, shortfall, needed, barred, shut, keepsOrigin, keepsDuration, keepsEnd, keepsHeight, neededSet, keptSet, narrowed, listedDays, atLeastStep}
+use Rattle.rules.specs.Step.{possible, running, sure, begun, unended, hope, total, others, counts, shortfall, needed, barred, shut, keepsOrigin, keepsDuration, keepsEnd, keepsHeight, neededSet, keptSet, narrowed, listedDays, atLeastStep}
 use Rattle.integers.specs.Lists.{In}
 use Rattle.rules.proofs.Days.{every-day}
 use Rattle.integers.specs.Lists.In.{head, tail}
 use Rattle.rules.proofs.Live.{Live, Lives}
 use Rattle.rules.proofs.Shrinks.{Shrunk, step-shrunk}
-use Rattle.rules.proofs.Untouched.{narrowed-untouched, possible-away, sure-away, narrowed-away}
+use Rattle.rules.proofs.Untouched.{narrowed-untouched, possible-away, only-away, sure-away, narrowed-away}
+use Rattle.rules.proofs.Counted.{unsure, unbegun, no-end, counts-same}
 use Rattle.rules.proofs.Sets.{kept-set-is, no-need-spoke, no-bar-spoke}
 use Rattle.rules.proofs.TaskDay.{no-sure, no-need, no-bar, no-shut}
 use Rattle.integers.proofs.Lists.{each-in}
@@ -53,7 +55,7 @@ pub data Beside (r : ℕ) : List Task → List Task → Type 0 where
 hope-away : (r : ℕ) (t : Task) → has (t .set) r ≡ false → (i : ℤ) → hope r i t ≡ pos 0
 unfolding hope
 hope-away r t e i =
-    rw (possible-away r (λ i. i) [] t e i, sure-away r (λ i. i) [] t e i)
+    rw (possible-away r t e i, sure-away r t e i)
     (if-case (λ x. x ≡ pos 0) (ltZ (pos 0) (t .height .high .0)) (pos 0) (pos 0) (λ e. refl) (λ e. refl))
 
 module _ (r : ℕ) {t u : Task} (a : Alike r t u) (i : ℤ) where
@@ -66,12 +68,10 @@ module _ (r : ℕ) {t u : Task} (a : Alike r t u) (i : ℤ) where
   running-alike = rw (a .origin, a .end)
 
   unsure-first : sure r i t ≡ false
-  unfolding sure
-  unsure-first = rw (a .shared)
+  unsure-first = unsure r i t (a .shared)
 
   unsure-second : sure r i u ≡ false
-  unfolding sure
-  unsure-second = rw (a .shares)
+  unsure-second = unsure r i u (a .shares)
 
   hope-alike : hope r i t ≡ hope r i u
   unfolding hope
@@ -85,16 +85,20 @@ total-beside r (other-task {t} {u} e f l b) i =
     ap₂ _+ℤ_ (hope-away r t e i ∙ sym (hope-away r u f i)) (total-beside r b i)
 total-beside r (other-set a l b) i = ap₂ _+ℤ_ (hope-alike r a i) (total-beside r b i)
 
-pub counts-beside : (r : ℕ) {ts us : List Task} → Beside r ts us → (i : ℤ) → counts r ts i ≡ counts r us i
-unfolding counts any
-counts-beside r no-tasks i = refl
-counts-beside r (same-task {t} b) i = ap (or (sure r i t)) (counts-beside r b i)
-counts-beside r (other-task {t} {u} e f l b) i =
-    ap₂ or (sure-away r (λ i. i) [] t e i ∙ sym (sure-away r (λ i. i) [] u f i)) (counts-beside r b i)
-counts-beside r (other-set a l b) i = ap₂ or (unsure-first r a i ∙ sym (unsure-second r a i)) (counts-beside r b i)
+-- a test that no task passes which may stand elsewhere
+any-beside : (r : ℕ) (p : Task → Bool) → ((t : Task) → only (t .set) r ≡ false → p t ≡ false) → {ts us : List Task} → Beside r ts us → any p ts ≡ any p us
+unfolding any
+any-beside r p h no-tasks = refl
+any-beside r p h (same-task {t} b) = ap (or (p t)) (any-beside r p h b)
+any-beside r p h (other-task {t} {u} e f l b) = ap₂ or (h t (only-away r t e) ∙ sym (h u (only-away r u f))) (any-beside r p h b)
+any-beside r p h (other-set {t} {u} a l b) = ap₂ or (h t (a .shared) ∙ sym (h u (a .shares))) (any-beside r p h b)
+
+pub counts-beside : (r : ℕ) (limit : Floor) {ts us : List Task} → Beside r ts us → (i : ℤ) → counts r limit ts i ≡ counts r limit us i
+counts-beside r limit {ts} {us} b i =
+    counts-same r limit ts us i (any-beside r (sure r i) (unsure r i) b) (any-beside r (begun r i) (unbegun r i) b) (any-beside r (unended r i) (no-end r i) b)
 
 -- ---- a task of both lists: what the rules leave of it over all listed days of the one, they leave over any days of the other
-module _ (r : ℕ) (limit : ℤ → ℤ) (t : Task) (l : Live t) (ts us : List Task) (same-total : (i : ℤ) → total r ts i ≡ total r us i) (same-counts : (i : ℤ) → counts r ts i ≡ counts r us i) (k : In t ts) (days : List ℤ) where
+module _ (r : ℕ) (limit : Floor) (t : Task) (l : Live t) (ts us : List Task) (same-total : (i : ℤ) → total r ts i ≡ total r us i) (same-counts : (i : ℤ) → counts r limit ts i ≡ counts r limit us i) (k : In t ts) (days : List ℤ) where
   others-same : (i : ℤ) → others r ts t i ≡ others r us t i
   unfolding others
   others-same i = ap (λ (x : ℤ). x -ℤ hope r i t) (same-total i)
@@ -140,7 +144,7 @@ module _ (r : ℕ) (limit : ℤ → ℤ) (t : Task) (l : Live t) (ts us : List T
   unfolding keepsHeight
   height-over v h =
       all-in _ days λ i.
-      rw (others-same i) at (every-day r (λ i. implies (sure r i t) (leZ (limit i -ℤ others r ts t i) v)) t ts k (λ i e. rw (no-sure r i t l e)) h i)
+      rw (others-same i) at (every-day r (λ i. implies (sure r i t) (leZ (limit .on i -ℤ others r ts t i) v)) t ts k (λ i e. rw (no-sure r i t l e)) h i)
 
   -- a rule that never fires on the listed days never fires
   never-over : (p q : ℤ → Bool) → ((i : ℤ) → possible r i t ≡ false → p i ≡ false) → ((i : ℤ) → p i ≡ q i) → any p (listedDays ts) ≡ false → any q days ≡ false
@@ -169,11 +173,11 @@ unfolding left
 left-same p q s h = ap hull (filter-same p q h (values s))
 
 -- so a step leaves the same of it
-module _ (r : ℕ) (limit : ℤ → ℤ) (t : Task) (l : Live t) (ts us : List Task) (same-total : (i : ℤ) → total r ts i ≡ total r us i) (same-counts : (i : ℤ) → counts r ts i ≡ counts r us i) (k : In t ts) (k' : In t us) where
+module _ (r : ℕ) (limit : Floor) (t : Task) (l : Live t) (ts us : List Task) (same-total : (i : ℤ) → total r ts i ≡ total r us i) (same-counts : (i : ℤ) → counts r limit ts i ≡ counts r limit us i) (k : In t ts) (k' : In t us) where
   back-total : (i : ℤ) → total r us i ≡ total r ts i
   back-total i = sym (same-total i)
 
-  back-counts : (i : ℤ) → counts r us i ≡ counts r ts i
+  back-counts : (i : ℤ) → counts r limit us i ≡ counts r limit ts i
   back-counts i = sym (same-counts i)
 
   needed-set-same : neededSet r limit ts (listedDays ts) t ≡ neededSet r limit us (listedDays us) t
@@ -209,7 +213,7 @@ module _ (r : ℕ) (limit : ℤ → ℤ) (t : Task) (l : Live t) (ts us : List T
       )
 
 -- ---- a task that r can't tell from one that it keeps: on no day is it needed, and a bar neither shuts values out nor takes r away
-module _ (r : ℕ) (limit : ℤ → ℤ) (ts us : List Task) (same-total : (i : ℤ) → total r ts i ≡ total r us i) (same-counts : (i : ℤ) → counts r ts i ≡ counts r us i)
+module _ (r : ℕ) (limit : Floor) (ts us : List Task) (same-total : (i : ℤ) → total r ts i ≡ total r us i) (same-counts : (i : ℤ) → counts r limit ts i ≡ counts r limit us i)
     (t u : Task) (a : Alike r t u) (k : In t ts) (kept : narrowed r limit ts (listedDays ts) t ≡ Kept t) where
   stayed : t .set ≡ keptSet r limit ts (listedDays ts) t
   stayed = kept-set-is r limit ts (listedDays ts) t t kept
@@ -266,36 +270,36 @@ unfolding each
 still-each f ts e t (head {xs = us}) = and-then-still t us (f t) (each f us) e .0
 still-each f ts e t (tail {y = u} {xs = us} k) = still-each f us (and-then-still u us (f u) (each f us) e .1) t k
 
-module _ (r : ℕ) (limit : ℤ → ℤ) (ts us : List Task) (beside : Beside r ts us) (lives : Lives ts) (still : (t : Task) → In t ts → narrowed r limit ts (listedDays ts) t ≡ Kept t) where
+module _ (r : ℕ) (limit : Floor) (ts us : List Task) (beside : Beside r ts us) (lives : Lives ts) (still : (t : Task) → In t ts → narrowed r limit ts (listedDays ts) t ≡ Kept t) where
   each-beside : {vs ws : List Task} → Beside r vs ws → ((t : Task) → In t vs → In t ts) → ((u : Task) → In u ws → In u us) → each (narrowed r limit us (listedDays us)) ws ≡ Plan ws
   unfolding each
   each-beside no-tasks f g = refl
   each-beside (same-task {t} {us = ws} b) f g =
       let kept : narrowed r limit us (listedDays us) t ≡ Kept t =
-      sym (narrowed-same r limit t (each-in lives (f t head)) ts us (total-beside r beside) (counts-beside r beside) (f t head) (g t head)) ∙ still t (f t head) in
+      sym (narrowed-same r limit t (each-in lives (f t head)) ts us (total-beside r beside) (counts-beside r limit beside) (f t head) (g t head)) ∙ still t (f t head) in
       ap₂ andThen kept (each-beside b (λ v k. f v (tail k)) (λ v k. g v (tail k)))
   each-beside (other-set {t} {u} {us = ws} a l c) f g =
       ap₂ andThen
-      (alike-kept r limit ts us (total-beside r beside) (counts-beside r beside) t u a (f t head) (still t (f t head)) (listedDays us) l)
+      (alike-kept r limit ts us (total-beside r beside) (counts-beside r limit beside) t u a (f t head) (still t (f t head)) (listedDays us) l)
       (each-beside c (λ v k. f v (tail k)) (λ v k. g v (tail k)))
   each-beside (other-task {u} {us = ws} a b l c) f g =
-      ap₂ andThen (narrowed-away r limit us u b (listedDays us) l) (each-beside c (λ v k. f v (tail k)) (λ v k. g v (tail k)))
+      ap₂ andThen (narrowed-away r u b limit us (listedDays us) l) (each-beside c (λ v k. f v (tail k)) (λ v k. g v (tail k)))
 
-shortfall-beside : (r : ℕ) (limit : ℤ → ℤ) {ts us : List Task} → Beside r ts us → (i : ℤ) → shortfall r limit ts i ≡ shortfall r limit us i
+shortfall-beside : (r : ℕ) (limit : Floor) {ts us : List Task} → Beside r ts us → (i : ℤ) → shortfall r limit ts i ≡ shortfall r limit us i
 unfolding shortfall
-shortfall-beside r limit b i = rw (counts-beside r b i, total-beside r b i)
+shortfall-beside r limit b i = rw (counts-beside r limit b i, total-beside r b i)
 
 pub if-plan : (b : Bool) (o : Outcome) (ts : List Task) → if b NoPlan o ≡ Plan ts → (b ≡ false) × (o ≡ Plan ts)
 if-plan true o ts e = let q : _≡_ {A = ℕ} 0 1 = cc (e) in absurd (omega arith)
 if-plan false o ts e = (refl, e)
 
 -- what a step leaves is not empty
-step-lives : (r : ℕ) (limit : ℤ → ℤ) (ts : List Task) → atLeastStep r limit ts ≡ Plan ts → Lives ts
+step-lives : (r : ℕ) (limit : Floor) (ts : List Task) → atLeastStep r limit ts ≡ Plan ts → Lives ts
 step-lives r limit ts e =
     let s : Shrunk ts (Plan ts) = subst (Shrunk ts) e (step-shrunk r limit ts) in
     s .1
 
-pub step-elsewhere : (r : ℕ) (limit : ℤ → ℤ) (ts us : List Task) → Beside r ts us → atLeastStep r limit ts ≡ Plan ts → atLeastStep r limit us ≡ Plan us
+pub step-elsewhere : (r : ℕ) (limit : Floor) (ts us : List Task) → Beside r ts us → atLeastStep r limit ts ≡ Plan ts → atLeastStep r limit us ≡ Plan us
 unfolding atLeastStep
 step-elsewhere r limit ts us b e =
     let parts = if-plan (any (shortfall r limit ts) (listedDays ts)) (each (narrowed r limit ts (listedDays ts)) ts) ts e in

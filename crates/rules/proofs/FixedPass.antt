@@ -17,7 +17,7 @@ use Rattle.plan.specs.Days.{daysOf, spanOf}
 use Rattle.plan.specs.Powers.{powersOf, powerSpanOf}
 use Rattle.plan.specs.Sets.{has, size}
 use Rattle.plan.proofs.Sets.{eqb-true, has-alone, alone-only, has-le, size-same, size-some, some-place}
-use Rattle.rules.specs.Frame.{Frame, places, limitOn}
+use Rattle.rules.specs.Frame.{Frame, places, floorAt}
 use Rattle.rules.specs.Allowed.{Choice, inside, insideAll, joined, holds, allowed}
 use Rattle.rules.specs.Balance.{Outcome}
 use Rattle.rules.specs.Balance.Outcome.{NoPlan, Plan}
@@ -34,12 +34,12 @@ use Rattle.rules.proofs.Checks.{check-live, check-wide}
 use Rattle.rules.proofs.FixedSteps.{sense-step-fixed, balance-fixed}
 
 -- ---- the choice as a list of choices
-steps-fixed : (f : Frame) (cs : List Choice) → all joined cs ≡ true → (rs : List ℕ) → steps f rs (map fixed cs) ≡ if (all (λ r. holds (f .sense) r (limitOn f r) cs) rs) (Plan (map fixed cs)) NoPlan
+steps-fixed : (f : Frame) (cs : List Choice) → all joined cs ≡ true → (rs : List ℕ) → steps f rs (map fixed cs) ≡ if (all (λ r. holds (f .sense) r (floorAt f r) cs) rs) (Plan (map fixed cs)) NoPlan
 unfolding steps all resourceStep
 steps-fixed f cs j [] = refl
 steps-fixed f cs j (r ∷ rs) =
-    ap (λ (o : Outcome). then o (steps f rs)) (sense-step-fixed (f .sense) r (limitOn f r) cs j)
-    ∙ by-cases (holds (f .sense) r (limitOn f r) cs) (λ h. rw h (steps-fixed f cs j rs)) (λ h. rw h)
+    ap (λ (o : Outcome). then o (steps f rs)) (sense-step-fixed (f .sense) r (floorAt f r) cs j)
+    ∙ by-cases (holds (f .sense) r (floorAt f r) cs) (λ h. rw h (steps-fixed f cs j rs)) (λ h. rw h)
 
 pub pass-fixed : (f : Frame) (cs : List Choice) → pass f (map fixed cs) ≡ if (allowed f cs) (Plan (map fixed cs)) NoPlan
 unfolding pass allowed

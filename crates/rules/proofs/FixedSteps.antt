@@ -2,16 +2,16 @@
 use mathlib.Core.Path.{_≡_, refl, sym, ap, ap₂, _∙_, subst, subst₂}
 use Prim.Native.Nat.{ℕ, _^_}
 use mathlib.Core.List.{List, [], _∷_, map}
-use mathlib.Core.Bool.{true, false, not}
-use lib.IntN.{ℤ, pos, _+ℤ_, _-ℤ_, negℤ}
-use lib.Signed.{leZ, ltZ, _≤ℤ_, _<ℤ_}
+use mathlib.Core.Bool.{Bool, true, false, not}
+use lib.IntN.{ℤ, pos, _+ℤ_, _-ℤ_}
+use lib.Signed.{leZ, ltZ}
 use lib.Dec.{eqb}
 use Rattle.integers.specs.Whole.{larger, smaller}
 use Rattle.integers.specs.Tests.{if, and, or, all, any}
 use Rattle.integers.specs.Sums.{sumOf}
 use Rattle.integers.specs.Hull.{Range, range, Sub}
 use Rattle.integers.proofs.Z.{z, +z, -z, maxz, minz, leZ-in, eqZ-in, negneg}
-use Rattle.integers.proofs.Tests.{clash, by-cases, if-case, same-test, and-first, and-second, not-out, or-left, not-any}
+use Rattle.integers.proofs.Tests.{clash, by-cases, if-case, same-test, and-first, and-second, not-out, not-any}
 use Rattle.integers.specs.Ends.{Within}
 use Rattle.plan.specs.declared.Task.{Task}
 use Rattle.plan.specs.declared.Narrowed.{Narrowed}
@@ -23,17 +23,16 @@ use Rattle.plan.specs.Days.{daysOf, spanOf, cutBelow, cutAbove, cutTo}
 use Rattle.plan.specs.Powers.{powersOf, powerSpanOf, negatedPowers}
 use Rattle.plan.specs.Sets.{has, only}
 use Rattle.plan.proofs.Sets.{eqb-true, eqb-in, has-alone, has-not-zero, alone-only, alone-is}
+use Rattle.rules.specs.Frame.{Floor}
 use Rattle.rules.specs.Allowed.{Choice, covers, adds, level, joined, meets, holds}
 use Rattle.rules.specs.Balance.{Outcome, andThen, each, cuts, unlessEmpty, balanced, balance}
 use Rattle.rules.specs.Balance.Outcome.{NoPlan, Plan}
-use Rattle.rules.specs.Step.{possible, running, sure, hope, total, counts, shortfall, listedDays, atLeastStep, negated, negatedPlan, senseStep}
+use Rattle.rules.specs.Step.{possible, running, sure, begun, unended, hope, total, counts, shortfall, listedDays, atLeastStep, negated, negatedPlan, negatedFloor, senseStep}
 use Rattle.rules.specs.Fixed.{fixed}
-use Rattle.integers.specs.Lists.{In}
-use Rattle.rules.proofs.Days.{listed}
-use Rattle.integers.specs.Lists.In.{head, tail}
-use Rattle.rules.proofs.Inside.{Inside, Fit, covers-is, joined-is}
+use Rattle.rules.proofs.Counted.{counted-listed}
+use Rattle.rules.proofs.Inside.{Inside, Fit, joined-is}
 use Rattle.rules.proofs.Inside.Fit.{none, more}
-use Rattle.rules.proofs.Limits.{Holds, holds-is, holds-in}
+use Rattle.rules.proofs.Limits.{begunBy, endsAfter, checked, Holds, holds-is, holds-in}
 use Rattle.rules.proofs.Stays.{PlanStays}
 use Rattle.rules.proofs.StepSound.{step-stays}
 use Rattle.rules.proofs.BalanceSound.{balance-stays}
@@ -126,33 +125,43 @@ module _ (r : ℕ) (i : ℤ) where
   total-fixed [] = refl
   total-fixed (c ∷ cs) = ap₂ _+ℤ_ (hope-fixed c) (total-fixed cs)
 
-  counts-fixed : (cs : List Choice) → counts r (map fixed cs) i ≡ any (covers r i) cs
-  unfolding counts any
-  counts-fixed [] = refl
-  counts-fixed (c ∷ cs) = ap₂ or (sure-fixed c) (counts-fixed cs)
+  begun-fixed : (c : Choice) → begun r i (fixed c) ≡ begunBy r i c
+  unfolding begun begunBy only
+  begun-fixed c = ap (λ b. and b (leZ (c .origin) i)) (same-power r (c .resource))
 
-  covering-task : (cs : List Choice) → any (covers r i) cs ≡ true → (t : Task) × In t (map fixed cs) × (t .origin .low .0 ≤ℤ i) × (i <ℤ t .end .high .0)
+  unended-fixed : (c : Choice) → unended r i (fixed c) ≡ endsAfter r i c
+  unfolding unended endsAfter only
+  unended-fixed c = ap (λ b. and b (ltZ i (c .end))) (same-power r (c .resource))
+
+  any-fixed : (p : Task → Bool) (q : Choice → Bool) → ((c : Choice) → p (fixed c) ≡ q c) → (cs : List Choice) → any p (map fixed cs) ≡ any q cs
   unfolding any
-  covering-task [] h = clash false h refl
-  covering-task (c ∷ cs) h =
-      by-cases (covers r i c) (λ e. let v = covers-is r i c e in (fixed c, head, v .from, v .to))
-      (λ e.
-      let q = covering-task cs (sym (or-left (covers r i c) (any (covers r i) cs) e) ∙ h) in
-      (q .0, tail (q .1), q .2, q .3))
+  any-fixed p q h [] = refl
+  any-fixed p q h (c ∷ cs) = ap₂ or (h c) (any-fixed p q h cs)
+
+  -- the days that count are those that are checked
+  counts-fixed : (limit : Floor) (cs : List Choice) → counts r limit (map fixed cs) i ≡ checked r limit cs i
+  unfolding counts checked
+  counts-fixed limit cs =
+      rw (
+        any-fixed (begun r i) (begunBy r i) begun-fixed cs,
+        any-fixed (unended r i) (endsAfter r i) unended-fixed cs,
+        any-fixed (sure r i) (covers r i) sure-fixed cs,
+      )
 
 -- ---- the resource step
-module _ (r : ℕ) (limit : ℤ → ℤ) (cs : List Choice) where
+module _ (r : ℕ) (limit : Floor) (cs : List Choice) where
   no-shortfall-holds : any (shortfall r limit (map fixed cs)) (listedDays (map fixed cs)) ≡ false → Holds AtLeast r limit cs
   unfolding shortfall meets
   no-shortfall-holds h i a =
       let ts = map fixed cs in
-      let t = covering-task r i cs a in
-      let q = listed r (λ i. not (shortfall r limit ts i)) (t .0) ts (t .1) (not-any (shortfall r limit ts) (listedDays ts) h) i (t .2) (t .3) in
-      let e : and (any (covers r i) cs) (ltZ (level r i cs) (limit i)) ≡ false =
-      subst₂ (λ x y. and x (ltZ y (limit i)) ≡ false) (counts-fixed r i cs) (total-fixed r i cs)
-      (not-out (and (counts r ts i) (ltZ (total r ts i) (limit i))) q) in
-      let f : ltZ (level r i cs) (limit i) ≡ false = subst (λ b. and b (ltZ (level r i cs) (limit i)) ≡ false) a e in
-      leZ-in (limit i) (level r i cs) (omega z)
+      let q =
+      counted-listed r limit ts i (λ i. not (shortfall r limit ts i)) (live-fixed cs) (not-any (shortfall r limit ts) (listedDays ts) h)
+      (counts-fixed r i limit cs ∙ a) in
+      let e : and (checked r limit cs i) (ltZ (level r i cs) (limit .on i)) ≡ false =
+      subst₂ (λ x y. and x (ltZ y (limit .on i)) ≡ false) (counts-fixed r i limit cs) (total-fixed r i cs)
+      (not-out (and (counts r limit ts i) (ltZ (total r ts i) (limit .on i))) q) in
+      let f : ltZ (level r i cs) (limit .on i) ≡ false = subst (λ b. and b (ltZ (level r i cs) (limit .on i)) ≡ false) a e in
+      leZ-in (limit .on i) (level r i cs) (omega z)
 
   step-fixed : all joined cs ≡ true → atLeastStep r limit (map fixed cs) ≡ if (holds AtLeast r limit cs) (Plan (map fixed cs)) NoPlan
   unfolding atLeastStep
@@ -183,19 +192,19 @@ unfolding all joined
 joined-negated [] = refl
 joined-negated (c ∷ cs) = ap (and (joined c)) (joined-negated cs)
 
-holds-negated : (r : ℕ) (limit : ℤ → ℤ) (cs : List Choice) → holds AtLeast r (λ i. negℤ (limit i)) (map negatedChoice cs) ≡ holds AtMost r limit cs
+holds-negated : (r : ℕ) (limit : Floor) (cs : List Choice) → holds AtLeast r (negatedFloor limit) (map negatedChoice cs) ≡ holds AtMost r limit cs
 holds-negated r limit cs =
-    let low : ℤ → ℤ = λ i. negℤ (limit i) in
+    let low = negatedFloor limit in
     same-test (holds AtLeast r low (map negatedChoice cs)) (holds AtMost r limit cs)
     (λ h. holds-in AtMost r limit cs (holds-at-most r limit cs (holds-is AtLeast r low (map negatedChoice cs) h)))
     (λ h. holds-in AtLeast r low (map negatedChoice cs) (holds-at-least r limit cs (holds-is AtMost r limit cs h)))
 
-pub sense-step-fixed : (sense : Sense) (r : ℕ) (limit : ℤ → ℤ) (cs : List Choice) → all joined cs ≡ true → senseStep sense r limit (map fixed cs) ≡ if (holds sense r limit cs) (Plan (map fixed cs)) NoPlan
+pub sense-step-fixed : (sense : Sense) (r : ℕ) (limit : Floor) (cs : List Choice) → all joined cs ≡ true → senseStep sense r limit (map fixed cs) ≡ if (holds sense r limit cs) (Plan (map fixed cs)) NoPlan
 unfolding senseStep
 sense-step-fixed AtLeast r limit cs j = step-fixed r limit cs j
 sense-step-fixed AtMost r limit cs j =
-    ap (λ (ts : List Task). negatedPlan (atLeastStep r (λ i. negℤ (limit i)) ts)) (negated-fixed cs)
-    ∙ ap negatedPlan (step-fixed r (λ i. negℤ (limit i)) (map negatedChoice cs) (joined-negated cs ∙ j))
+    ap (λ (ts : List Task). negatedPlan (atLeastStep r (negatedFloor limit) ts)) (negated-fixed cs)
+    ∙ ap negatedPlan (step-fixed r (negatedFloor limit) (map negatedChoice cs) (joined-negated cs ∙ j))
     ∙ by-cases (holds AtMost r limit cs)
     (λ h. rw (holds-negated r limit cs, h) (ap Plan (negated-fixed (map negatedChoice cs) ∙ ap (map fixed) (choices-back cs))))
     (λ h. rw (holds-negated r limit cs, h))

@@ -3,19 +3,25 @@
 use mathlib.Core.Path.{_≡_, sym, _∙_}
 use Prim.Native.Nat.{ℕ}
 use mathlib.Core.List.{List}
-use mathlib.Core.Bool.{true}
+use mathlib.Core.Bool.{Bool, true}
 use lib.IntN.{ℤ, pos, _+ℤ_, _-ℤ_}
-use lib.Signed.{ltZ, _≤ℤ_, _<ℤ_}
-use Rattle.integers.specs.Tests.{if, any}
+use lib.Signed.{leZ, ltZ, _≤ℤ_, _<ℤ_}
+use lib.Dec.{eqb}
+use Rattle.integers.specs.Tests.{if, and, any}
+use Rattle.integers.specs.Lists.{In}
+use Rattle.integers.specs.Lists.In.{head, tail}
 use Rattle.integers.specs.Sums.{sumOf}
-use Rattle.integers.proofs.Z.{z, +z, -z}
-use Rattle.integers.proofs.Tests.{clash, by-cases, if-case, or-left, any-first, any-later}
+use Rattle.integers.proofs.Z.{z, +z, -z, leZ-in, ltZ-in}
+use Rattle.integers.proofs.Tests.{clash, by-cases, if-case, and-first, and-second, and-in, or-left, any-first, any-later}
 use Rattle.plan.specs.declared.Task.{Task}
 use Rattle.plan.specs.Sets.{only}
-use Rattle.plan.proofs.Sets.{only-is, alone-only}
+use Rattle.plan.proofs.Sets.{eqb-in, only-is, alone-only}
+use Rattle.rules.specs.Frame.{Floor}
 use Rattle.rules.specs.Allowed.{Choice, covers, adds, level}
-use Rattle.rules.specs.Step.{possible, running, sure, hope, total, others, counts}
+use Rattle.rules.specs.Step.{possible, running, sure, begun, unended, hope, total, others, counts}
 use Rattle.rules.proofs.TaskDay.{possible-in, running-is, sure-only, sure-running}
+use Rattle.rules.proofs.Counted.{begun-by, begun-only, ends-after, unended-only}
+use Rattle.rules.proofs.Limits.{begunBy, endsAfter, checked, covered-checked}
 use Rattle.rules.proofs.Inside.{Inside, Covers, Fit, For, covers-is, covers-in}
 use Rattle.rules.proofs.Inside.Fit.{none, more}
 use Rattle.rules.proofs.Inside.For.{here, later}
@@ -93,15 +99,43 @@ module _ (r : ℕ) (i : ℤ) where
       omega
       (z, +z (adds r i d) l, +z (hope r i u) m, -z (adds r i d +ℤ l) (adds r i c), -z (hope r i u +ℤ m) (hope r i t), -z l (adds r i c), -z m (hope r i t))
 
-  -- a sure task, so a covered day
-  pub counts-covered : {ts : List Task} {cs : List Choice} → Fit ts cs → counts r ts i ≡ true → any (covers r i) cs ≡ true
-  unfolding counts any
-  counts-covered none h = h
-  counts-covered (more {t} {c} {ts} {cs} h j f) k =
-      by-cases (sure r i t)
-      (λ s. any-first (covers r i) c cs (covers-in r i c (sure-covers r i t c h s)))
-      (λ s. any-later (covers r i) c cs (counts-covered f (sym (or-left (sure r i t) (any (sure r i) ts) s) ∙ k)))
+  -- what a test says of a task, another says of its choice
+  any-for : (p : Task → Bool) (q : Choice → Bool) → ((t : Task) (c : Choice) → Inside t c → p t ≡ true → q c ≡ true)
+      → {ts : List Task} {cs : List Choice} → Fit ts cs → any p ts ≡ true → any q cs ≡ true
+  unfolding any
+  any-for p q g none h = h
+  any-for p q g (more {t} {c} {ts} {cs} h j f) k =
+      by-cases (p t) (λ s. any-first q c cs (g t c h s)) (λ s. any-later q c cs (any-for p q g f (sym (or-left (p t) (any p ts) s) ∙ k)))
 
-  pub for-covered : {t : Task} {c : Choice} {ts : List Task} {cs : List Choice} → For t c ts cs → Covers r i c → any (covers r i) cs ≡ true
-  for-covered {c} (here {cs}) h = any-first (covers r i) c cs (covers-in r i c h)
-  for-covered (later {d} {cs} k) h = any-later (covers r i) d cs (for-covered k h)
+  begun-choice : (t : Task) (c : Choice) → Inside t c → begun r i t ≡ true → begunBy r i c ≡ true
+  unfolding begunBy
+  begun-choice t c h b =
+      let o = h .origin in
+      let l = begun-by r i t b in
+      and-in (eqb (c .resource) r) (leZ (c .origin) i) (eqb-in (c .resource) r (only-there r i t c h (begun-only r i t b))) (leZ-in (c .origin) i (omega z))
+
+  unended-choice : (t : Task) (c : Choice) → Inside t c → unended r i t ≡ true → endsAfter r i c ≡ true
+  unfolding endsAfter
+  unended-choice t c h b =
+      let e = h .end in
+      let l = ends-after r i t b in
+      and-in (eqb (c .resource) r) (ltZ i (c .end)) (eqb-in (c .resource) r (only-there r i t c h (unended-only r i t b))) (ltZ-in i (c .end) (omega z))
+
+  -- a day that counts is checked
+  pub counts-checked : (limit : Floor) {ts : List Task} {cs : List Choice} → Fit ts cs → counts r limit ts i ≡ true → checked r limit cs i ≡ true
+  unfolding counts checked
+  counts-checked limit {ts} {cs} f =
+      by-cases (limit .held)
+      (λ e.
+      rw e λ k.
+      and-in (any (begunBy r i) cs) (any (endsAfter r i) cs)
+      (any-for (begun r i) (begunBy r i) begun-choice f (and-first (any (begun r i) ts) (any (unended r i) ts) k))
+      (any-for (unended r i) (endsAfter r i) unended-choice f (and-second (any (begun r i) ts) (any (unended r i) ts) k)))
+      (λ e. rw e λ k. any-for (sure r i) (covers r i) (λ t c h s. covers-in r i c (sure-covers r i t c h s)) f k)
+
+  for-in : {t : Task} {c : Choice} {ts : List Task} {cs : List Choice} → For t c ts cs → In c cs
+  for-in here = head
+  for-in (later k) = tail (for-in k)
+
+  pub for-checked : (limit : Floor) {t : Task} {c : Choice} {ts : List Task} {cs : List Choice} → For t c ts cs → Covers r i c → checked r limit cs i ≡ true
+  for-checked limit k h = covered-checked r limit i (for-in k) h

@@ -6,6 +6,7 @@ pub mod Places
 pub mod Fits
 pub mod Live
 pub mod TaskDay
+pub mod Counted
 pub mod Untouched
 pub mod Bands
 pub mod Negation

@@ -28,10 +28,10 @@ use Rattle.plan.specs.declared.Sense.the-variants.{AtMost, AtLeast}
 use Rattle.plan.specs.Days.{emptySpan}
 use Rattle.plan.specs.Powers.{power, powerEnds, powersOf, negatedPowers}
 use Rattle.plan.specs.Tasks.{noResource}
-use Rattle.rules.specs.Frame.{Frame, resourceCount, resourceAt, placesFrom, places, limitFrom, limitOn}
+use Rattle.rules.specs.Frame.{Frame, resourceCount, resourceAt, placesFrom, places, limitFrom, limitOn, Floor, floor, floorAt}
 use Rattle.rules.specs.Balance.{Outcome, andThen, each, cuts, unlessEmpty, balanced, balance}
 use Rattle.rules.specs.Balance.Outcome.{NoPlan, Plan}
-use Rattle.rules.specs.Step.{negated, negatedPlan, atLeastStep, senseStep, resourceStep}
+use Rattle.rules.specs.Step.{negated, negatedPlan, negatedFloor, atLeastStep, senseStep, resourceStep}
 use Rattle.rules.specs.Settle.{then, steps, pass, sameRanges, sameTask, sameTasks, Settled, onePassMore, unlessSame, settleWithin, settle, room, rooms}
 use Rattle.rules.specs.Settle.Settled.{Refused, After, Unsettled}
 use Rattle.rules.specs.Calls.{orElse, refuseIf, repeats, limits, rangesFit, setFits, tasksFit, earlier, bandEnds, bandFits, bandsAfter, bandsFit, check, Result, unlessRefused, stepped, settled, placedIn, answered, callOf}
@@ -61,7 +61,7 @@ pub resources-back : (qs : List Resource) → map negatedResource (map negatedRe
 unfolding negatedResource
 resources-back [] = refl
 resources-back (q ∷ qs) =
-    ap₂ (λ (x : ℤ) (xs : List Resource). record { id = q .id; limit = power x } ∷ xs) (negneg (q .limit .0)) (resources-back qs)
+    ap₂ (λ (x : ℤ) (xs : List Resource). record { id = q .id; limit = power x; kind = q .kind } ∷ xs) (negneg (q .limit .0)) (resources-back qs)
 
 pub bands-back : (bs : List Band) → map negatedBand (map negatedBand bs) ≡ bs
 unfolding negatedBand
@@ -105,11 +105,12 @@ unfolding balance
 balance-negated ts = each-negated balanced balanced balanced-negated ts
 
 -- ---- one step, in either sense
-sense-step-negated : (sense : Sense) (r : ℕ) (limit : ℤ → ℤ) (ts : List Task) → senseStep (opposite sense) r (λ i. negℤ (limit i)) (map negated ts) ≡ negatedPlan (senseStep sense r limit ts)
+sense-step-negated : (sense : Sense) (r : ℕ) (limit : Floor) (ts : List Task) → senseStep (opposite sense) r (negatedFloor limit) (map negated ts) ≡ negatedPlan (senseStep sense r limit ts)
 unfolding senseStep
 sense-step-negated AtLeast r limit ts =
-    ap₂ (λ (low : ℤ → ℤ) (us : List Task). negatedPlan (atLeastStep r low us)) (λ k i. negneg (limit i) k) (negateds-back ts)
-sense-step-negated AtMost r limit ts = sym (plan-back (atLeastStep r (λ i. negℤ (limit i)) (map negated ts)))
+    ap₂ (λ (on : ℤ → ℤ) (us : List Task). negatedPlan (atLeastStep r (record { on = on; held = limit .held }) us)) (λ k i. negneg (limit .on i) k)
+    (negateds-back ts)
+sense-step-negated AtMost r limit ts = sym (plan-back (atLeastStep r (negatedFloor limit) (map negated ts)))
 
 limit-negated : (qs : List Resource) (r : ℕ) → getD (map negatedResource qs) r noResource .limit .0 ≡ negℤ (getD qs r noResource .limit .0)
 unfolding negatedResource noResource
@@ -123,11 +124,20 @@ limit-on-negated f r i =
     ap (λ (x : ℤ). limitFrom r x (map negatedBand (f .bands)) i) (limit-negated (f .resources) r)
     ∙ limit-bands-negated r (resourceAt f r .limit .0) (f .bands) i
 
+kind-negated : (qs : List Resource) (r : ℕ) → getD (map negatedResource qs) r noResource .kind ≡ getD qs r noResource .kind
+unfolding negatedResource noResource
+kind-negated [] r = refl
+kind-negated (q ∷ qs) zero = refl
+kind-negated (q ∷ qs) (suc r) = kind-negated qs r
+
+floor-negated : (f : Frame) (r : ℕ) → floorAt (negatedFrame f) r ≡ negatedFloor (floorAt f r)
+floor-negated f r = ap₂ floor (kind-negated (f .resources) r) (λ k i. limit-on-negated f r i k)
+
 pub step-negated : (f : Frame) (r : ℕ) (ts : List Task) → resourceStep (negatedFrame f) r (map negated ts) ≡ negatedPlan (resourceStep f r ts)
 unfolding resourceStep
 step-negated f r ts =
-    ap (λ (limit : ℤ → ℤ). senseStep (opposite (f .sense)) r limit (map negated ts)) (λ k i. limit-on-negated f r i k)
-    ∙ sense-step-negated (f .sense) r (limitOn f r) ts
+    ap (λ (limit : Floor). senseStep (opposite (f .sense)) r limit (map negated ts)) (floor-negated f r)
+    ∙ sense-step-negated (f .sense) r (floorAt f r) ts
 
 -- ---- a pass
 then-negated : (o : Outcome) (k k' : List Task → Outcome) → ((us : List Task) → k (map negated us) ≡ negatedPlan (k' us)) → then (negatedPlan o) k ≡ negatedPlan (then o k')

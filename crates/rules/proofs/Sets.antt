@@ -18,6 +18,7 @@ use Rattle.plan.specs.Days.{daysOf}
 use Rattle.plan.specs.Powers.{powersOf}
 use Rattle.plan.specs.Sets.{has, only}
 use Rattle.plan.proofs.Sets.{only-in, without-out}
+use Rattle.rules.specs.Frame.{Floor}
 use Rattle.rules.specs.Step.{orRanOut, running, needed, barred, keepsOrigin, keepsDuration, keepsEnd, keepsHeight, neededSet, keptSet, narrowed}
 
 -- what is kept has this set
@@ -29,7 +30,7 @@ left-set : (s : ℕ) (v : Value) (l : Left) (k : Range → Narrowed) → ((x : R
 left-set s v Nothing k f = tt
 left-set s v (Some x) k f = f x
 
-module _ (r : ℕ) (limit : ℤ → ℤ) (ts : List Task) (days : List ℤ) (t : Task) where
+module _ (r : ℕ) (limit : Floor) (ts : List Task) (days : List ℤ) (t : Task) where
   narrowed-set : SetIs (keptSet r limit ts days t) (narrowed r limit ts days t)
   unfolding narrowed
   narrowed-set =

@@ -3,7 +3,7 @@ use mathlib.Core.Path.{_≡_}
 use Prim.Native.Nat.{ℕ, _^_}
 use mathlib.Core.List.{List, [], _∷_, map}
 use mathlib.Core.Bool.{true, false}
-use lib.IntN.{ℤ, _+ℤ_, _-ℤ_, negℤ}
+use lib.IntN.{ℤ, _+ℤ_, _-ℤ_}
 use lib.Signed.{_≤ℤ_}
 use lib.Dec.{eqb}
 use Rattle.integers.specs.Tests.{and, any}
@@ -24,10 +24,10 @@ use Rattle.plan.specs.Days.{daysOf, cutBelow, cutAbove, cutTo, emptySpan}
 use Rattle.plan.specs.Powers.{powersOf}
 use Rattle.plan.specs.Sets.{has, without, SubSet}
 use Rattle.plan.proofs.Sets.{alone-only, without-has}
-use Rattle.rules.specs.Frame.{Frame, limitOn}
+use Rattle.rules.specs.Frame.{Frame, floorAt, Floor}
 use Rattle.rules.specs.Balance.{Outcome, andThen, each, cuts, unlessEmpty, balanced, balance}
 use Rattle.rules.specs.Balance.Outcome.{NoPlan, Plan}
-use Rattle.rules.specs.Step.{orRanOut, running, shortfall, needed, barred, keepsOrigin, keepsDuration, keepsEnd, keepsHeight, neededSet, keptSet, narrowed, listedDays, atLeastStep, negated, negatedPlan, senseStep, resourceStep}
+use Rattle.rules.specs.Step.{orRanOut, running, shortfall, needed, barred, keepsOrigin, keepsDuration, keepsEnd, keepsHeight, neededSet, keptSet, narrowed, listedDays, atLeastStep, negated, negatedPlan, negatedFloor, senseStep, resourceStep}
 use Rattle.rules.specs.Settle.{then}
 use Rattle.rules.proofs.Live.{Live, Lives, lives-negated}
 use Rattle.integers.specs.Lists.{Each}
@@ -65,7 +65,7 @@ left-shrunk : (t : Task) (v : Value) (s : Range) (l : Left) (k : Range → Narro
 left-shrunk t v s Nothing k h g f = tt
 left-shrunk t v s (Some x) k h g f = f x h g
 
-module _ (r : ℕ) (limit : ℤ → ℤ) (ts : List Task) (days : List ℤ) where
+module _ (r : ℕ) (limit : Floor) (ts : List Task) (days : List ℤ) where
   needed-sub : (t : Task) → SubSet (neededSet r limit ts days t) (t .set)
   unfolding neededSet
   needed-sub t k =
@@ -106,7 +106,7 @@ module _ (r : ℕ) (limit : ℤ → ℤ) (ts : List Task) (days : List ℤ) wher
   every-shrunk [] = nothing
   every-shrunk (u ∷ us) = also (narrowed-shrunk u) (every-shrunk us)
 
-pub step-shrunk : (r : ℕ) (limit : ℤ → ℤ) (ts : List Task) → Shrunk ts (atLeastStep r limit ts)
+pub step-shrunk : (r : ℕ) (limit : Floor) (ts : List Task) → Shrunk ts (atLeastStep r limit ts)
 unfolding atLeastStep
 step-shrunk r limit ts =
     if-case (Shrunk ts) (any (shortfall r limit ts) (listedDays ts)) NoPlan (each (narrowed r limit ts (listedDays ts)) ts) (λ e. tt)
@@ -116,15 +116,15 @@ negated-shrunk : (ts : List Task) (o : Outcome) → Shrunk (map negated ts) o �
 negated-shrunk ts NoPlan h = tt
 negated-shrunk ts (Plan us) h = (subs-back ts us (h .0), lives-negated (h .1))
 
-sense-step-shrunk : (sense : Sense) (r : ℕ) (limit : ℤ → ℤ) (ts : List Task) → Shrunk ts (senseStep sense r limit ts)
+sense-step-shrunk : (sense : Sense) (r : ℕ) (limit : Floor) (ts : List Task) → Shrunk ts (senseStep sense r limit ts)
 unfolding senseStep
 sense-step-shrunk AtLeast r limit ts = step-shrunk r limit ts
 sense-step-shrunk AtMost r limit ts =
-    negated-shrunk ts (atLeastStep r (λ i. negℤ (limit i)) (map negated ts)) (step-shrunk r (λ i. negℤ (limit i)) (map negated ts))
+    negated-shrunk ts (atLeastStep r (negatedFloor limit) (map negated ts)) (step-shrunk r (negatedFloor limit) (map negated ts))
 
 pub resource-step-shrunk : (f : Frame) (r : ℕ) (ts : List Task) → Shrunk ts (resourceStep f r ts)
 unfolding resourceStep
-resource-step-shrunk f r ts = sense-step-shrunk (f .sense) r (limitOn f r) ts
+resource-step-shrunk f r ts = sense-step-shrunk (f .sense) r (floorAt f r) ts
 
 -- ---- balance
 cuts-sub : (t : Task) → SubTask (cuts t) t

@@ -18,24 +18,25 @@ use Rattle.plan.specs.Days.{daysOf, spanOf}
 use Rattle.plan.specs.Powers.{powersOf, powerSpanOf}
 use Rattle.plan.specs.Sets.{has, only, without}
 use Rattle.plan.proofs.Sets.{has-alone, has-not-zero, without-keeps}
+use Rattle.rules.specs.Frame.{Floor}
 use Rattle.rules.specs.Allowed.{Choice, covers, adds, level, meets}
 use Rattle.rules.specs.Step.{possible, running, sure, total, others, counts, shortfall, needed, barred, shut, keepsOrigin, keepsDuration, keepsEnd, keepsHeight, neededSet, keptSet, narrowed, listedDays, atLeastStep}
 use Rattle.rules.proofs.Inside.{Inside, Covers, Fit, For, covers-is, covers-in, for-inside, for-joined}
-use Rattle.rules.proofs.Limits.{Holds}
+use Rattle.rules.proofs.Limits.{checked, Holds}
 use Rattle.rules.proofs.Stays.{TaskStays, PlanStays, each-stays}
-use Rattle.rules.proofs.Hopes.{running-from, running-to, only-there, sure-covers, total-le, others-le, counts-covered, for-covered}
+use Rattle.rules.proofs.Hopes.{running-from, running-to, only-there, sure-covers, total-le, others-le, counts-checked, for-checked}
 
-module _ (r : ℕ) (limit : ℤ → ℤ) (ts : List Task) (cs : List Choice) (fit : Fit ts cs) (ok : Holds AtLeast r limit cs) where
-  met : (i : ℤ) → any (covers r i) cs ≡ true → limit i ≤ℤ level r i cs
+module _ (r : ℕ) (limit : Floor) (ts : List Task) (cs : List Choice) (fit : Fit ts cs) (ok : Holds AtLeast r limit cs) where
+  met : (i : ℤ) → checked r limit cs i ≡ true → limit .on i ≤ℤ level r i cs
   unfolding meets
-  met i h = let a : leZ (limit i) (level r i cs) ≡ true = ok i h in omega z
+  met i h = let a : leZ (limit .on i) (level r i cs) ≡ true = ok i h in omega z
 
   no-shortfall : (i : ℤ) → shortfall r limit ts i ≡ true → ⊥
   unfolding shortfall
   no-shortfall i h =
-      let a = and-first (counts r ts i) (ltZ (total r ts i) (limit i)) h in
-      let b : ltZ (total r ts i) (limit i) ≡ true = and-second (counts r ts i) (ltZ (total r ts i) (limit i)) h in
-      let l = met i (counts-covered r i fit a) in
+      let a = and-first (counts r limit ts i) (ltZ (total r ts i) (limit .on i)) h in
+      let b : ltZ (total r ts i) (limit .on i) ≡ true = and-second (counts r limit ts i) (ltZ (total r ts i) (limit .on i)) h in
+      let l = met i (counts-checked r i limit fit a) in
       let m = total-le r i fit in
       omega z
 
@@ -44,10 +45,10 @@ module _ (r : ℕ) (limit : ℤ → ℤ) (ts : List Task) (cs : List Choice) (fi
     in-t = for-inside fit at
 
     -- on a covered day the others and its own height reach the limit
-    reaches : (i : ℤ) → Covers r i c → limit i ≤ℤ (others r ts t i +ℤ c .height)
+    reaches : (i : ℤ) → Covers r i c → limit .on i ≤ℤ (others r ts t i +ℤ c .height)
     unfolding adds
     reaches i h =
-        let l = met i (for-covered r i at h) in
+        let l = met i (for-checked r i limit at h) in
         let m : (level r i cs -ℤ c .height) ≤ℤ others r ts t i =
         subst (λ b. (level r i cs -ℤ if b (c .height) (pos 0)) ≤ℤ others r ts t i) (covers-in r i c h) (others-le r i fit at) in
         omega (z, -z (level r i cs) (c .height), +z (others r ts t i) (c .height))
@@ -55,8 +56,8 @@ module _ (r : ℕ) (limit : ℤ → ℤ) (ts : List Task) (cs : List Choice) (fi
     barred-not : (i : ℤ) → barred r limit ts t i ≡ true → Covers r i c → ⊥
     unfolding barred
     barred-not i h v =
-        let a : ltZ (others r ts t i +ℤ t .height .high .0) (limit i) ≡ true =
-        and-second (possible r i t) (ltZ (others r ts t i +ℤ t .height .high .0) (limit i)) h in
+        let a : ltZ (others r ts t i +ℤ t .height .high .0) (limit .on i) ≡ true =
+        and-second (possible r i t) (ltZ (others r ts t i +ℤ t .height .high .0) (limit .on i)) h in
         let b = reaches i v in
         let n = in-t .height in
         omega (z, +z (others r ts t i) (c .height), +z (others r ts t i) (t .height .high .0))
@@ -65,11 +66,11 @@ module _ (r : ℕ) (limit : ℤ → ℤ) (ts : List Task) (cs : List Choice) (fi
     unfolding needed adds
     needed-covers i h =
         let p = ltZ (pos 0) (t .height .high .0) in
-        let q = ltZ (others r ts t i) (limit i) in
-        let a = and-first (counts r ts i) (and (possible r i t) (and p q)) h in
+        let q = ltZ (others r ts t i) (limit .on i) in
+        let a = and-first (counts r limit ts i) (and (possible r i t) (and p q)) h in
         let b : q ≡ true =
-        and-second p q (and-second (possible r i t) (and p q) (and-second (counts r ts i) (and (possible r i t) (and p q)) h)) in
-        let l = met i (counts-covered r i fit a) in
+        and-second p q (and-second (possible r i t) (and p q) (and-second (counts r limit ts i) (and (possible r i t) (and p q)) h)) in
+        let l = met i (counts-checked r i limit fit a) in
         by-cases (covers r i c) (covers-is r i c)
         (λ e.
         let m : (level r i cs -ℤ pos 0) ≤ℤ others r ts t i =
@@ -142,8 +143,8 @@ module _ (r : ℕ) (limit : ℤ → ℤ) (ts : List Task) (cs : List Choice) (fi
           all-in _ days λ i.
           implies-in (sure r i t) _ λ s.
           let a = reaches i (sure-covers r i t c in-t s) in
-          leZ-in (limit i -ℤ others r ts t i) (c .height)
-          (omega (z, -z (limit i) (others r ts t i), +z (others r ts t i) (c .height)))
+          leZ-in (limit .on i -ℤ others r ts t i) (c .height)
+          (omega (z, -z (limit .on i) (others r ts t i), +z (others r ts t i) (c .height)))
 
       needed-set : has (neededSet r limit ts days t) (c .resource) ≡ true
       unfolding neededSet

@@ -12,6 +12,7 @@ use Rattle.integers.proofs.Tests.{clash, by-cases, false-in, and-first, and-sec
 use Rattle.plan.specs.declared.Task.{Task}
 use Rattle.plan.specs.Sets.{has, only}
 use Rattle.plan.proofs.Sets.{only-has}
+use Rattle.rules.specs.Frame.{Floor}
 use Rattle.rules.specs.Step.{possible, running, sure, hope, needed, barred, shut}
 use Rattle.rules.proofs.Live.{Live}
 
@@ -91,7 +92,7 @@ module _ (r : ℕ) (i : ℤ) (t : Task) where
   hope-sure l k = by-cases (ltZ (pos 0) (t .height .high .0)) (λ h. hope-high h (sure-possible l k)) (λ h. rw (h, k))
 
   -- ---- a day that is not possible
-  module _ (limit : ℤ → ℤ) (ts : List Task) where
+  module _ (limit : Floor) (ts : List Task) where
     pub no-need : possible r i t ≡ false → needed r limit ts t i ≡ false
     unfolding needed
     no-need e = simp (e, and-off)

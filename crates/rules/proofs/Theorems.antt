@@ -14,7 +14,7 @@ use Rattle.integers.specs.Lists.{In}
 use Rattle.integers.proofs.Lists.{each-in}
 use Rattle.plan.specs.declared.Task.{Task}
 use Rattle.plan.specs.declared.Checked.the-variants.{Accepted}
-use Rattle.rules.specs.Frame.{Frame, resourceCount}
+use Rattle.rules.specs.Frame.{Frame, resourceCount, Floor}
 use Rattle.rules.specs.Allowed.{Choice, insideAll, allowed}
 use Rattle.rules.specs.Listing.{listing, samePlan, plans, count}
 use Rattle.rules.specs.Balance.{balance}
@@ -124,7 +124,7 @@ module _ (f : Frame) (ts : List Task) (ok : check f ts ≡ Accepted) where
   plans-once cs = plans-listed f ts ok cs
 
   -- ---- listing only the days from the least origin low to the greatest end high is no choice of ours: no rule speaks of another day
-  pub no-other-day : (r : ℕ) (limit : ℤ → ℤ) (i : ℤ) → any (eqZ i) (listedDays ts) ≡ false → (shortfall r limit ts i ≡ false) × ((t : Task) → In t ts → (needed r limit ts t i ≡ false) × (barred r limit ts t i ≡ false) × (sure r i t ≡ false))
+  pub no-other-day : (r : ℕ) (limit : Floor) (i : ℤ) → any (eqZ i) (listedDays ts) ≡ false → (shortfall r limit ts i ≡ false) × ((t : Task) → In t ts → (needed r limit ts t i ≡ false) × (barred r limit ts t i ≡ false) × (sure r i t ≡ false))
   no-other-day r limit i out =
       let l = check-live f ts ok in
       (shortfall-unlisted r limit ts i out l, λ t k. (needed-unlisted r limit ts i out k, barred-unlisted r limit ts i out k, sure-unlisted r limit ts i out k (each-in l k)))

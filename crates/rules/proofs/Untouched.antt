@@ -17,28 +17,30 @@ use Rattle.plan.specs.Days.{daysOf}
 use Rattle.plan.specs.Powers.{powersOf}
 use Rattle.plan.specs.Sets.{has, only}
 use Rattle.plan.proofs.Sets.{only-has}
+use Rattle.rules.specs.Frame.{Floor}
 use Rattle.rules.specs.Step.{possible, running, sure, others, needed, barred, shut, keepsOrigin, keepsDuration, keepsEnd, keepsHeight, neededSet, keptSet, narrowed}
 use Rattle.rules.proofs.Live.{Live}
 use Rattle.rules.proofs.TaskDay.{no-need, no-bar}
+use Rattle.rules.proofs.Counted.{unsure}
 
 -- a test that passes every value leaves the whole range
 pub left-all : (p : ℤ → Bool) (s : Range) → s .low ≤ℤ s .high → p (s .low) ≡ true → p (s .high) ≡ true → left p s ≡ Some s
 left-all p s h a b = left-is p s (s .low) (s .high) (omega z) (omega z) a b (λ u w e. (w .least, w .most))
 
 -- no rule of r touches t on day i: no need, no bar that shuts values out or takes r away, and a height that is enough already
-pub record Untouched (r : ℕ) (limit : ℤ → ℤ) (ts : List Task) (t : Task) (i : ℤ) : Type 0 where
+pub record Untouched (r : ℕ) (limit : Floor) (ts : List Task) (t : Task) (i : ℤ) : Type 0 where
   pub need : needed r limit ts t i ≡ false
   pub bar : shut r limit ts t i ≡ false
   pub leave : and (barred r limit ts t i) (running r i t) ≡ false
-  pub height : sure r i t ≡ true → (limit i -ℤ others r ts t i) ≤ℤ t .height .low .0
+  pub height : sure r i t ≡ true → (limit .on i -ℤ others r ts t i) ≤ℤ t .height .low .0
 
 -- a day on which the task is not barred at all
-pub untouched-unbarred : (r : ℕ) (limit : ℤ → ℤ) (ts : List Task) (t : Task) (i : ℤ) → needed r limit ts t i ≡ false → barred r limit ts t i ≡ false
-    → (sure r i t ≡ true → (limit i -ℤ others r ts t i) ≤ℤ t .height .low .0) → Untouched r limit ts t i
+pub untouched-unbarred : (r : ℕ) (limit : Floor) (ts : List Task) (t : Task) (i : ℤ) → needed r limit ts t i ≡ false → barred r limit ts t i ≡ false
+    → (sure r i t ≡ true → (limit .on i -ℤ others r ts t i) ≤ℤ t .height .low .0) → Untouched r limit ts t i
 unfolding shut
 untouched-unbarred r limit ts t i n b h = record { need = n; bar = rw b (and-off (only (t .set) r)); leave = rw b; height = h }
 
-module _ (r : ℕ) (limit : ℤ → ℤ) (ts : List Task) (days : List ℤ) (t : Task) (quiet : (i : ℤ) → Untouched r limit ts t i) where
+module _ (r : ℕ) (limit : Floor) (ts : List Task) (days : List ℤ) (t : Task) (quiet : (i : ℤ) → Untouched r limit ts t i) where
   not-shut : (i : ℤ) → shut r limit ts t i ≡ true → ⊥
   not-shut i s = clash (shut r limit ts t i) s (quiet i .bar)
 
@@ -67,7 +69,7 @@ module _ (r : ℕ) (limit : ℤ → ℤ) (ts : List Task) (days : List ℤ) (t :
       all-in _ days λ i.
       implies-in (sure r i t) _ λ s.
       let e = quiet i .height s in
-      leZ-in (limit i -ℤ others r ts t i) v (omega z)
+      leZ-in (limit .on i -ℤ others r ts t i) v (omega z)
 
   pub set-quiet : keptSet r limit ts days t ≡ t .set
   unfolding keptSet neededSet
@@ -91,7 +93,7 @@ module _ (r : ℕ) (limit : ℤ → ℤ) (ts : List Task) (days : List ℤ) (t :
       )
 
 -- a task that may not stand on r is quiet there on every day
-module _ (r : ℕ) (limit : ℤ → ℤ) (ts : List Task) (t : Task) (away : has (t .set) r ≡ false) where
+module _ (r : ℕ) (t : Task) (away : has (t .set) r ≡ false) where
   pub possible-away : (i : ℤ) → possible r i t ≡ false
   unfolding possible
   possible-away i = rw away
@@ -100,14 +102,14 @@ module _ (r : ℕ) (limit : ℤ → ℤ) (ts : List Task) (t : Task) (away : has
   only-away = false-in (only (t .set) r) (λ o. clash (has (t .set) r) (only-has (t .set) r o) away)
 
   pub sure-away : (i : ℤ) → sure r i t ≡ false
-  unfolding sure
-  sure-away i = rw only-away
+  sure-away i = unsure r i t only-away
 
-  pub untouched-away : (i : ℤ) → Untouched r limit ts t i
-  untouched-away i =
-      untouched-unbarred r limit ts t i (no-need r i t limit ts (possible-away i)) (no-bar r i t limit ts (possible-away i))
-      (λ s. clash (sure r i t) s (sure-away i))
+  module _ (limit : Floor) (ts : List Task) where
+    pub untouched-away : (i : ℤ) → Untouched r limit ts t i
+    untouched-away i =
+        untouched-unbarred r limit ts t i (no-need r i t limit ts (possible-away i)) (no-bar r i t limit ts (possible-away i))
+        (λ s. clash (sure r i t) s (sure-away i))
 
-  -- so the step of r keeps it as it is
-  pub narrowed-away : (days : List ℤ) → Live t → narrowed r limit ts days t ≡ Kept t
-  narrowed-away days l = narrowed-untouched r limit ts days t untouched-away l
+    -- so the step of r keeps it as it is
+    pub narrowed-away : (days : List ℤ) → Live t → narrowed r limit ts days t ≡ Kept t
+    narrowed-away days l = narrowed-untouched r limit ts days t untouched-away l

@@ -6,8 +6,9 @@ use lib.IntN.{ℤ, pos, _+ℤ_, predℤ}
 use lib.Signed.{leZ, ltZ}
 use lib.Dec.{eqb}
 use Rattle.integers.specs.Whole.{eqZ}
-use Rattle.integers.specs.Tests.{if, and, implies, all}
+use Rattle.integers.specs.Tests.{if, and, implies, all, filter}
 use Rattle.integers.specs.Sums.{sumOf}
+use Rattle.integers.specs.Least.{leastOf, greatestOf}
 use Rattle.integers.specs.Hull.{range, within, values}
 use Rattle.plan.specs.declared.Task.{Task}
 use Rattle.plan.specs.declared.Sense.{Sense}
@@ -15,7 +16,7 @@ use Rattle.plan.specs.declared.Sense.the-variants.{AtMost, AtLeast}
 use Rattle.plan.specs.Days.{daysOf}
 use Rattle.plan.specs.Powers.{powersOf}
 use Rattle.plan.specs.Sets.{has}
-use Rattle.rules.specs.Frame.{Frame, places, limitOn}
+use Rattle.rules.specs.Frame.{Frame, places, Floor, floorAt}
 
 -- "It chooses for each task one resource and one value in each range"
 pub record Choice : Type 0 where
@@ -63,10 +64,25 @@ unfoldable pub meets : Sense → ℤ → ℤ → Bool
 meets AtLeast limit x = leZ limit x
 meets AtMost limit x = leZ x limit
 
+unfoldable pub meetsOn : Sense → ℕ → Floor → List Choice → ℤ → Bool
+meetsOn sense r limit cs i = meets sense (limit .on i) (level r i cs)
+
 -- "on every resource and every day covered there by at least one task"; "A day that no task covers is not checked"
-unfoldable pub holds : Sense → ℕ → (ℤ → ℤ) → List Choice → Bool
-holds sense r limit cs =
-    all (λ c. implies (eqb (c .resource) r) (all (λ i. meets sense (limit i) (level r i cs)) (coveredDays c))) cs
+unfoldable pub holdsCovered : Sense → ℕ → Floor → List Choice → Bool
+holdsCovered sense r limit cs = all (λ c. implies (eqb (c .resource) r) (all (meetsOn sense r limit cs) (coveredDays c))) cs
+
+-- "the tasks placed there"
+unfoldable pub placedOn : ℕ → List Choice → List Choice
+placedOn r cs = filter (λ c. eqb (c .resource) r) cs
+
+-- "the days from the least origin to one before the greatest end of the tasks placed there", "tasks of duration 0 taking part in both"
+unfoldable pub heldDays : List Choice → List ℤ
+heldDays [] = []
+heldDays (c ∷ cs) = values (range (leastOf (λ c. c .origin) (c .origin) cs) (predℤ (greatestOf (λ c. c .end) (c .end) cs)))
+
+-- "On a held one", those days "are all checked"
+unfoldable pub holds : Sense → ℕ → Floor → List Choice → Bool
+holds sense r limit cs = if (limit .held) (all (meetsOn sense r limit cs) (heldDays (placedOn r cs))) (holdsCovered sense r limit cs)
 
 unfoldable pub allowed : Frame → List Choice → Bool
-allowed f cs = and (all joined cs) (all (λ r. holds (f .sense) r (limitOn f r) cs) (places f))
+allowed f cs = and (all joined cs) (all (λ r. holds (f .sense) r (floorAt f r) cs) (places f))

@@ -15,14 +15,14 @@ use Rattle.rules.specs.Frame.{Frame, framed}
 use Rattle.rules.specs.Calls.{Result, done, refused}
 use Rattle.rules.specs.Cases.{Case, one, task, here, limit, two}
 
-abbrev band : ℕ → ℤ → ℤ → Band
+abbrev pub band : ℕ → ℤ → ℤ → Band
 band p d l = record { place = p; from = day d; limit = power l }
 
-abbrev banded : Frame → List Task → Result → Case
+abbrev pub banded : Frame → List Task → Result → Case
 banded f ts r = record { call = Settle; frame = f; tasks = ts; result = r }
 
 -- a task of one duration and one height, whose ends follow from its origins
-abbrev moving : ℕ → ℤ → ℤ → ℤ → ℤ → Task
+abbrev pub moving : ℕ → ℤ → ℤ → ℤ → ℤ → Task
 moving s a b d h = task s (range a b) (one d) (range (a +ℤ d) (b +ℤ d)) (one h)
 
 -- a task with no resource
@@ -30,10 +30,10 @@ abbrev nowhere : List Task
 nowhere = task 0 (one (pos 1)) (one (pos 1)) (one (pos 2)) (one (pos 0)) ∷ []
 
 -- settled after one pass, with nothing narrowed
-abbrev stays : Frame → List Task → Case
+abbrev pub stays : Frame → List Task → Case
 stays f ts = banded f ts (done 1 ts)
 
-abbrev hasNone : Frame → List Task → Case
+abbrev pub hasNone : Frame → List Task → Case
 hasNone f ts = banded f ts (refused NoPlan ts)
 
 -- so many bands of limit 0 on the first resource, on one day after another

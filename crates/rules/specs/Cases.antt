@@ -6,6 +6,7 @@ use lib.IntN.{ℤ, pos, negsuc}
 use Rattle.integers.specs.Hull.{Range, range}
 use Rattle.plan.specs.declared.Task.{Task}
 use Rattle.plan.specs.declared.Resource.{Resource}
+use Rattle.plan.specs.declared.Kind.the-variants.{Plain}
 use Rattle.plan.specs.declared.Sense.{Sense}
 use Rattle.plan.specs.declared.Sense.the-variants.{AtMost, AtLeast}
 use Rattle.plan.specs.declared.Call.{Call}
@@ -13,7 +14,7 @@ use Rattle.plan.specs.declared.Call.the-variants.{Check, Balance, Step, Pass, S
 use Rattle.plan.specs.declared.Refusal.the-variants.{TooManyTasks, ResourceCount, RepeatedIdentifier, LimitOutside, RangeOutside, SetOutside, NoPlan}
 use Rattle.plan.specs.Days.{spanOf}
 use Rattle.plan.specs.Powers.{power, powerSpanOf}
-use Rattle.rules.specs.Frame.{Frame, plain}
+use Rattle.rules.specs.Frame.{Frame, unbanded}
 use Rattle.rules.specs.Calls.{Result, done, refused}
 
 -- a plan, a call, and what it answers and leaves
@@ -35,20 +36,26 @@ abbrev pub here : ℤ → ℤ → ℤ → ℤ → Task
 here o d e h = task 1 (one o) (one d) (one e) (one h)
 
 abbrev pub resource : ℤ → ℤ → Resource
-resource i l = record { id = i; limit = power l }
+resource i l = record { id = i; limit = power l; kind = Plain }
 
 abbrev pub limit : ℤ → List Resource
 limit l = resource (pos 7) l ∷ []
 
 abbrev settles : Sense → List Resource → List Task → ℕ → List Task → Case
-settles s qs ts n us = record { call = Settle; frame = plain s qs; tasks = ts; result = done n us }
+settles s qs ts n us = record { call = Settle; frame = unbanded s qs; tasks = ts; result = done n us }
 
 abbrev hasNone : Sense → List Resource → List Task → Case
-hasNone s qs ts = record { call = Settle; frame = plain s qs; tasks = ts; result = refused NoPlan ts }
+hasNone s qs ts = record { call = Settle; frame = unbanded s qs; tasks = ts; result = refused NoPlan ts }
 
 -- ---- the page's cases
 abbrev caseA : Task
 caseA = here (pos 3) (pos 2) (pos 5) (pos 2)
+
+abbrev pub case7Before : List Task
+case7Before = caseA ∷ task 1 (range (pos 0) (pos 9)) (one (pos 1)) (range (pos 1) (pos 10)) (one (negsuc 1)) ∷ []
+
+abbrev pub case7After : List Task
+case7After = caseA ∷ task 1 (range (pos 3) (pos 4)) (one (pos 1)) (range (pos 4) (pos 5)) (one (negsuc 1)) ∷ []
 
 abbrev case9First : Task
 case9First = task 1 (range (pos 1) (pos 2)) (one (pos 2)) (range (pos 3) (pos 4)) (range (pos 0) (pos 1))
@@ -57,7 +64,7 @@ abbrev case9Resources : List Resource
 case9Resources = resource (pos 7) (pos 4) ∷ resource (pos 9) (pos 3) ∷ []
 
 abbrev pub case9Frame : Frame
-case9Frame = plain AtLeast case9Resources
+case9Frame = unbanded AtLeast case9Resources
 
 abbrev pub case9Before : List Task
 case9Before = case9First ∷ task 3 (range (pos 0) (pos 6)) (one (pos 2)) (range (pos 2) (pos 8)) (range (pos 0) (pos 4)) ∷ []
@@ -88,9 +95,7 @@ pageCases =
     ∷ settles AtLeast (limit (pos 2)) (here (pos 1) (pos 2) (pos 3) (pos 2) ∷ here (pos 5) (pos 2) (pos 7) (pos 2) ∷ []) 1
     (here (pos 1) (pos 2) (pos 3) (pos 2) ∷ here (pos 5) (pos 2) (pos 7) (pos 2) ∷ [])
     -- 7: limit 0, A 3/2/5/2, B origin 0..9, duration 1, end 1..10, height -2: B ends with origin 3..4, end 4..5, after 2 passes
-    ∷ settles AtLeast (limit (pos 0))
-    (caseA ∷ task 1 (range (pos 0) (pos 9)) (one (pos 1)) (range (pos 1) (pos 10)) (one (negsuc 1)) ∷ []) 2
-    (caseA ∷ task 1 (range (pos 3) (pos 4)) (one (pos 1)) (range (pos 4) (pos 5)) (one (negsuc 1)) ∷ [])
+    ∷ settles AtLeast (limit (pos 0)) case7Before 2 case7After
     -- 8: limit -3, A 2/1/3/-2, B origin 1..3, duration 1, end 2..4, height -2: day 2 is barred for B, its origin stays 1..3, 1 pass
     ∷ settles AtLeast (limit (negsuc 2))
     (here (pos 2) (pos 1) (pos 3) (negsuc 1) ∷ task 1 (range (pos 1) (pos 3)) (one (pos 1)) (range (pos 2) (pos 4)) (one (negsuc 1)) ∷ []) 1
@@ -101,7 +106,7 @@ pageCases =
 
 -- ---- cases of our own
 abbrev refuses : Sense → List Resource → List Task → Result → Case
-refuses s qs ts x = record { call = Settle; frame = plain s qs; tasks = ts; result = x }
+refuses s qs ts x = record { call = Settle; frame = unbanded s qs; tasks = ts; result = x }
 
 abbrev pub two : ℤ → ℤ → List Resource
 two a b = resource (pos 7) a ∷ resource (pos 9) b ∷ []
@@ -181,28 +186,28 @@ ownCases =
     -- one resource step: all needs come before bars. Day 6 needs the third task, days 4 and 8 are barred to it: only origin 5 is left.
     ∷ record {
       call = Step 0;
-      frame = plain AtLeast (limit (pos 2));
+      frame = unbanded AtLeast (limit (pos 2));
       tasks = needsFirstOthers ++ task 1 (range (pos 0) (pos 6)) (one (pos 3)) (range (pos 3) (pos 9)) (one (pos 1)) ∷ [];
       result = done 0 (needsFirstOthers ++ here (pos 5) (pos 3) (pos 8) (pos 1) ∷ []);
     }
     -- balance alone, in three tasks: each of the six cuts
     ∷ record {
       call = Balance;
-      frame = plain AtLeast (limit (pos 0));
+      frame = unbanded AtLeast (limit (pos 0));
       tasks = task 1 (range (pos 0) (pos 20)) (one (pos 2)) (range (pos 10) (pos 12)) (one (pos 0)) ∷ task 1 (one (pos 5)) (range (pos 2) (pos 3)) (range (pos 0) (pos 20)) (one (pos 0)) ∷ task 1 (range (pos 5) (pos 6)) (range (pos 0) (pos 100)) (range (pos 10) (pos 12)) (one (pos 0)) ∷ [];
       result = done 0 (task 1 (range (pos 8) (pos 10)) (one (pos 2)) (range (pos 10) (pos 12)) (one (pos 0)) ∷ task 1 (one (pos 5)) (range (pos 2) (pos 3)) (range (pos 7) (pos 8)) (one (pos 0)) ∷ task 1 (range (pos 5) (pos 6)) (range (pos 4) (pos 7)) (range (pos 10) (pos 12)) (one (pos 0)) ∷ []);
     }
     -- duration after a barred day
     ∷ record {
       call = Step 0;
-      frame = plain AtLeast (limit (negsuc 0));
+      frame = unbanded AtLeast (limit (negsuc 0));
       tasks = here (pos 2) (pos 1) (pos 3) (negsuc 0) ∷ task 1 (range (pos 2) (pos 6)) (range (pos 1) (pos 9)) (range (pos 3) (pos 8)) (one (negsuc 0)) ∷ [];
       result = done 0 (here (pos 2) (pos 1) (pos 3) (negsuc 0) ∷ task 1 (range (pos 3) (pos 6)) (range (pos 1) (pos 5)) (range (pos 4) (pos 8)) (one (negsuc 0)) ∷ []);
     }
     -- list order
     ∷ record {
       call = Pass;
-      frame = plain AtLeast (two (pos 5) (pos 2));
+      frame = unbanded AtLeast (two (pos 5) (pos 2));
       tasks = task 3 (one (pos 0)) (one (pos 1)) (one (pos 1)) (range (pos 0) (pos 4)) ∷ [];
       result = done 0 (task 2 (one (pos 0)) (one (pos 1)) (one (pos 1)) (range (pos 2) (pos 4)) ∷ []);
     }
@@ -212,7 +217,7 @@ ownCases =
     -- a sure task, unbalanced, is needed too
     ∷ record {
       call = Step 0;
-      frame = plain AtLeast (limit (pos 3));
+      frame = unbanded AtLeast (limit (pos 3));
       tasks = task 1 (range (pos 0) (pos 2)) (one (pos 1)) (range (pos 3) (pos 9)) (one (pos 3)) ∷ [];
       result = done 0 (task 1 (one (pos 2)) (one (pos 1)) (one (pos 3)) (one (pos 3)) ∷ []);
     }
@@ -222,7 +227,7 @@ ownCases =
     ∷ refuses AtLeast (two (pos 0) (pos 0) ++ resource (pos 7) (pos 0) ∷ []) [] (refused (RepeatedIdentifier 2) [])
     ∷ refuses AtLeast (two (pos 1000001) (pos 1000001)) [] (refused (LimitOutside 0) [])
     -- 1 and 2 at their ends
-    ∷ record { call = Check; frame = plain AtLeast (crews 16); tasks = replicate 256 (here (pos 0) (pos 0) (pos 0) (pos 0)); result = done 0 (replicate 256 (here (pos 0) (pos 0) (pos 0) (pos 0))) }
-    ∷ record { call = Check; frame = plain AtLeast (crews 17); tasks = []; result = refused ResourceCount [] }
-    ∷ record { call = Check; frame = plain AtLeast []; tasks = replicate 257 (here (pos 0) (pos 0) (pos 0) (pos 0)); result = refused TooManyTasks (replicate 257 (here (pos 0) (pos 0) (pos 0) (pos 0))) }
+    ∷ record { call = Check; frame = unbanded AtLeast (crews 16); tasks = replicate 256 (here (pos 0) (pos 0) (pos 0) (pos 0)); result = done 0 (replicate 256 (here (pos 0) (pos 0) (pos 0) (pos 0))) }
+    ∷ record { call = Check; frame = unbanded AtLeast (crews 17); tasks = []; result = refused ResourceCount [] }
+    ∷ record { call = Check; frame = unbanded AtLeast []; tasks = replicate 257 (here (pos 0) (pos 0) (pos 0) (pos 0)); result = refused TooManyTasks (replicate 257 (here (pos 0) (pos 0) (pos 0) (pos 0))) }
     ∷ []

@@ -1,13 +1,15 @@
 -- What no step changes, a plan's frame: its sense, its resources, each known by its place in the list, and their bands. "Places count from 0."
 use Prim.Native.Nat.{ℕ, zero, suc}
 use mathlib.Core.List.{List, [], _∷_}
-use mathlib.Core.Bool.{Bool}
+use mathlib.Core.Bool.{Bool, true, false}
 use lib.Dec.{eqb, ltb}
 use lib.IntN.{ℤ}
 use lib.ListN.{length, getD}
 use lib.Signed.{leZ}
 use Rattle.integers.specs.Tests.{if, and}
 use Rattle.plan.specs.declared.Resource.{Resource}
+use Rattle.plan.specs.declared.Kind.{Kind}
+use Rattle.plan.specs.declared.Kind.the-variants.{Plain, Held}
 use Rattle.plan.specs.declared.Band.{Band}
 use Rattle.plan.specs.declared.Sense.{Sense}
 use Rattle.plan.specs.Tasks.{noResource}
@@ -21,8 +23,8 @@ abbrev pub framed : Sense → List Resource → List Band → Frame
 framed sense qs bs = record { sense = sense; resources = qs; bands = bs }
 
 -- without bands
-abbrev pub plain : Sense → List Resource → Frame
-plain sense qs = framed sense qs []
+abbrev pub unbanded : Sense → List Resource → Frame
+unbanded sense qs = framed sense qs []
 
 abbrev pub resourceCount : Frame → ℕ
 resourceCount f = length (f .resources)
@@ -55,3 +57,20 @@ limitFrom r x (b ∷ bs) i = limitFrom r (if (stands r i b) (b .limit .0) x) bs 
 -- the limit of the resource at a place, on a day: "Before a resource's first band its RS limit stands."
 unfoldable pub limitOn : Frame → ℕ → ℤ → ℤ
 limitOn f r i = limitFrom r (resourceAt f r .limit .0) (f .bands) i
+
+-- ---- "Feeders that must hold between jobs too."
+abbrev pub isHeld : Kind → Bool
+isHeld Plain = false
+isHeld Held = true
+
+-- what is asked of a resource: its limit on each day, and whether it is held
+pub record Floor : Type 0 where
+  pub on : ℤ → ℤ
+  pub held : Bool
+
+abbrev pub floor : Kind → (ℤ → ℤ) → Floor
+floor k limit = record { on = limit; held = isHeld k }
+
+-- of the resource at a place
+abbrev pub floorAt : Frame → ℕ → Floor
+floorAt f r = floor (resourceAt f r .kind) (limitOn f r)

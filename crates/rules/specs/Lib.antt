@@ -14,4 +14,5 @@ pub mod Rises
 pub mod Negation
 pub mod Cases
 pub mod BandCases
+pub mod HeldCases
 pub mod PassCases

@@ -16,7 +16,7 @@ opposite AtMost = AtLeast
 opposite AtLeast = AtMost
 
 unfoldable pub negatedResource : Resource → Resource
-negatedResource q = record { id = q .id; limit = negatedPower (q .limit) }
+negatedResource q = record { id = q .id; limit = negatedPower (q .limit); kind = q .kind }
 
 unfoldable pub negatedBand : Band → Band
 negatedBand b = record { place = b .place; from = b .from; limit = negatedPower (b .limit) }

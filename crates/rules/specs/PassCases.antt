@@ -9,7 +9,7 @@ use Rattle.plan.specs.declared.Call.the-variants.{Settle, Within, MostPasses}
 use Rattle.plan.specs.declared.Refusal.the-variants.{RangeOutside, SetOutside, NoPlan, BandOutside}
 use Rattle.plan.specs.Days.{day}
 use Rattle.plan.specs.Powers.{power}
-use Rattle.rules.specs.Frame.{Frame, plain, framed}
+use Rattle.rules.specs.Frame.{Frame, unbanded, framed}
 use Rattle.rules.specs.Calls.{Result, done, refused}
 use Rattle.rules.specs.Cases.{Case, one, task, here, resource, limit, case9Frame, case9Before, case9Stepped, case9After}
 
@@ -22,10 +22,10 @@ abbrev makes : ℕ → Frame → List Task → Result → Case
 makes most f ts x = record { call = Within most; frame = f; tasks = ts; result = x }
 
 abbrev feeder : Frame
-feeder = plain AtLeast (limit (pos 0))
+feeder = unbanded AtLeast (limit (pos 0))
 
 abbrev crews : Frame
-crews = plain AtMost (resource (pos 1) (pos 0) ∷ resource (pos 2) (pos 0) ∷ resource (pos 3) (pos 0) ∷ [])
+crews = unbanded AtMost (resource (pos 1) (pos 0) ∷ resource (pos 2) (pos 0) ∷ resource (pos 3) (pos 0) ∷ [])
 
 -- on day 5 alone
 abbrev onDay5 : ℕ → ℕ → Task
@@ -34,7 +34,7 @@ onDay5 s h = task s (one (pos 5)) (one (pos 1)) (one (pos 6)) (one (pos h))
 -- limits 1 and 2, a sure task of height 0 on each, and two of height 1 that may go to either. The first resource could do without the one or the
 -- other; the second needs both, and gets them in the first pass; in the second pass nothing lifts the sure task on the first
 abbrev lateFrame : Frame
-lateFrame = plain AtLeast (resource (pos 1) (pos 1) ∷ resource (pos 2) (pos 2) ∷ [])
+lateFrame = unbanded AtLeast (resource (pos 1) (pos 1) ∷ resource (pos 2) (pos 2) ∷ [])
 
 abbrev late : ℕ → List Task
 late s = onDay5 1 0 ∷ onDay5 2 0 ∷ onDay5 s 1 ∷ onDay5 s 1 ∷ []
@@ -42,7 +42,7 @@ late s = onDay5 1 0 ∷ onDay5 2 0 ∷ onDay5 s 1 ∷ onDay5 s 1 ∷ []
 -- limits 0, 1 and 1, and two helpers that may lift a resource or the next: the last resource needs its only helper, then the one before it the
 -- other; the third pass changes nothing, and 1 + 2 is the bound
 abbrev chainFrame : Frame
-chainFrame = plain AtLeast (resource (pos 1) (pos 0) ∷ resource (pos 2) (pos 1) ∷ resource (pos 3) (pos 1) ∷ [])
+chainFrame = unbanded AtLeast (resource (pos 1) (pos 0) ∷ resource (pos 2) (pos 1) ∷ resource (pos 3) (pos 1) ∷ [])
 
 abbrev chain : ℕ → ℕ → List Task
 chain s u = onDay5 1 0 ∷ onDay5 2 0 ∷ onDay5 4 0 ∷ onDay5 s 1 ∷ onDay5 u 1 ∷ []
@@ -100,9 +100,9 @@ passCases =
     ∷ makes 3 chainFrame (chain 3 6) (done 3 (chain 2 4))
     ∷ record { call = Settle; frame = chainFrame; tasks = chain 3 6; result = done 3 (chain 2 4) }
     -- at most: B has to take what A leaves, which the first pass finds
-    ∷ makes 1 (plain AtMost (limit (negsuc 2))) (here (pos 0) (pos 1) (pos 1) (negsuc 0) ∷ task 1 (one (pos 0)) (one (pos 1)) (one (pos 1)) (range (negsuc 3) (pos 0)) ∷ [])
+    ∷ makes 1 (unbanded AtMost (limit (negsuc 2))) (here (pos 0) (pos 1) (pos 1) (negsuc 0) ∷ task 1 (one (pos 0)) (one (pos 1)) (one (pos 1)) (range (negsuc 3) (pos 0)) ∷ [])
     (done 0 (here (pos 0) (pos 1) (pos 1) (negsuc 0) ∷ task 1 (one (pos 0)) (one (pos 1)) (one (pos 1)) (range (negsuc 3) (negsuc 1)) ∷ []))
-    ∷ makes 2 (plain AtMost (limit (negsuc 2))) (here (pos 0) (pos 1) (pos 1) (negsuc 0) ∷ task 1 (one (pos 0)) (one (pos 1)) (one (pos 1)) (range (negsuc 3) (pos 0)) ∷ [])
+    ∷ makes 2 (unbanded AtMost (limit (negsuc 2))) (here (pos 0) (pos 1) (pos 1) (negsuc 0) ∷ task 1 (one (pos 0)) (one (pos 1)) (one (pos 1)) (range (negsuc 3) (pos 0)) ∷ [])
     (done 2 (here (pos 0) (pos 1) (pos 1) (negsuc 0) ∷ task 1 (one (pos 0)) (one (pos 1)) (one (pos 1)) (range (negsuc 3) (negsuc 1)) ∷ []))
     -- a level that rises on day 1 bars the job from then on, which the first pass finds; bands are no part of the bound
     ∷ atMost (rising 0) (waiting 3) 7

@@ -5,9 +5,10 @@ use mathlib.Core.Bool.{Bool, not}
 use lib.IntN.{ℤ, pos, _+ℤ_, _-ℤ_, negℤ}
 use lib.Signed.{leZ, ltZ}
 use lib.Dec.{eqb}
-use Rattle.integers.specs.Whole.{larger, smaller}
+use Rattle.integers.specs.Whole.{larger}
 use Rattle.integers.specs.Tests.{if, and, implies, all, any}
 use Rattle.integers.specs.Sums.{sumOf}
+use Rattle.integers.specs.Least.{leastOf, greatestOf}
 use Rattle.integers.specs.Hull.{Range, range, within, values, Left, left}
 use Rattle.integers.specs.Hull.Left.{Nothing, Some}
 use Rattle.plan.specs.declared.Task.{Task}
@@ -20,7 +21,7 @@ use Rattle.plan.specs.declared.Narrowed.the-variants.{Kept, RanOut}
 use Rattle.plan.specs.Days.{daysOf, spanOf}
 use Rattle.plan.specs.Powers.{powersOf, powerSpanOf, negatedPowers}
 use Rattle.plan.specs.Sets.{has, only, without}
-use Rattle.rules.specs.Frame.{Frame, limitOn}
+use Rattle.rules.specs.Frame.{Frame, Floor, floorAt}
 use Rattle.rules.specs.Balance.{Outcome, each}
 use Rattle.rules.specs.Balance.Outcome.{NoPlan, Plan}
 
@@ -58,23 +59,32 @@ module _ (r : ℕ) where
   unfoldable pub others : List Task → Task → ℤ → ℤ
   others ts t i = total ts i -ℤ hope i t
 
-  -- the days that count: "some task is sure on i"
-  unfoldable pub counts : List Task → ℤ → Bool
-  counts ts i = any (sure i) ts
+  -- "one task with only that resource has origin high <= day"
+  unfoldable pub begun : ℤ → Task → Bool
+  begun i t = and (only (t .set) r) (leZ (t .origin .high .0) i)
 
-  module _ (limit : ℤ → ℤ) (ts : List Task) where
+  -- "one such task has end low > day"
+  unfoldable pub unended : ℤ → Task → Bool
+  unended i t = and (only (t .set) r) (ltZ i (t .end .low .0))
+
+  -- the days that count: "some task is sure on i"; "For shortfall and need, a held day counts when one task with only that resource has
+  -- origin high <= day and one such task has end low > day."
+  unfoldable pub counts : Floor → List Task → ℤ → Bool
+  counts limit ts i = if (limit .held) (and (any (begun i) ts) (any (unended i) ts)) (any (sure i) ts)
+
+  module _ (limit : Floor) (ts : List Task) where
     -- "Shortfall: some task is sure on i and all hopes together are below L: no plan."
     unfoldable pub shortfall : ℤ → Bool
-    shortfall i = and (counts ts i) (ltZ (total ts i) (limit i))
+    shortfall i = and (counts limit ts i) (ltZ (total ts i) (limit .on i))
 
     -- "Need: some task is sure on i, and a task possible on i with positive highest height has others < L"
     unfoldable pub needed : Task → ℤ → Bool
     needed t i =
-        and (counts ts i) (and (possible i t) (and (ltZ (pos 0) (t .height .high .0)) (ltZ (others ts t i) (limit i))))
+        and (counts limit ts i) (and (possible i t) (and (ltZ (pos 0) (t .height .high .0)) (ltZ (others ts t i) (limit .on i))))
 
     -- "Bar: a task possible on i has others + its highest height < L: it can't cover i on r."
     unfoldable pub barred : Task → ℤ → Bool
-    barred t i = and (possible i t) (ltZ (others ts t i +ℤ t .height .high .0) (limit i))
+    barred t i = and (possible i t) (ltZ (others ts t i +ℤ t .height .high .0) (limit .on i))
 
     -- "If r is its only resource"
     unfoldable pub shut : Task → ℤ → Bool
@@ -109,7 +119,7 @@ module _ (r : ℕ) where
 
       -- "Height: a task sure on i has height at least L - others."
       unfoldable pub keepsHeight : ℤ → Bool
-      keepsHeight v = all (λ i. implies (sure i t) (leZ (limit i -ℤ others ts t i) v)) days
+      keepsHeight v = all (λ i. implies (sure i t) (leZ (limit .on i -ℤ others ts t i) v)) days
 
       -- need: "it gets r as its only resource"
       unfoldable pub neededSet : ℕ
@@ -128,21 +138,20 @@ module _ (r : ℕ) where
           if (eqb keptSet 0) (RanOut Set)
           (Kept (record { set = keptSet; origin = spanOf o; duration = spanOf d; end = spanOf e; height = powerSpanOf h }))
 
--- the days listed: from the least origin low to the greatest end high. On any other day no task is possible or sure, so no rule speaks of it.
-unfoldable pub least : ℤ → List Task → ℤ
-least a [] = a
-least a (t ∷ ts) = least (smaller a (t .origin .low .0)) ts
+-- the days listed: from the least origin low to the greatest end high. On any other day no task is possible, and no such day counts, so no rule
+-- speaks of it.
+abbrev pub firstDay : Task → ℤ
+firstDay t = t .origin .low .0
 
-unfoldable pub greatest : ℤ → List Task → ℤ
-greatest a [] = a
-greatest a (t ∷ ts) = greatest (larger a (t .end .high .0)) ts
+abbrev pub lastEnd : Task → ℤ
+lastEnd t = t .end .high .0
 
 unfoldable pub listedDays : List Task → List ℤ
 listedDays [] = []
-listedDays (t ∷ ts) = values (range (least (t .origin .low .0) ts) (greatest (t .end .high .0) ts))
+listedDays (t ∷ ts) = values (range (leastOf firstDay (firstDay t) ts) (greatestOf lastEnd (lastEnd t) ts))
 
 -- the step for sense at least
-unfoldable pub atLeastStep : ℕ → (ℤ → ℤ) → List Task → Outcome
+unfoldable pub atLeastStep : ℕ → Floor → List Task → Outcome
 atLeastStep r limit ts =
     if (any (shortfall r limit ts) (listedDays ts)) NoPlan (each (narrowed r limit ts (listedDays ts)) ts)
 
@@ -154,11 +163,14 @@ abbrev pub negatedPlan : Outcome → Outcome
 negatedPlan NoPlan = NoPlan
 negatedPlan (Plan ts) = Plan (map negated ts)
 
+abbrev pub negatedFloor : Floor → Floor
+negatedFloor limit = record { on = λ i. negℤ (limit .on i); held = limit .held }
+
 -- the step in either sense
-unfoldable pub senseStep : Sense → ℕ → (ℤ → ℤ) → List Task → Outcome
+unfoldable pub senseStep : Sense → ℕ → Floor → List Task → Outcome
 senseStep AtLeast r limit ts = atLeastStep r limit ts
-senseStep AtMost r limit ts = negatedPlan (atLeastStep r (λ i. negℤ (limit i)) (map negated ts))
+senseStep AtMost r limit ts = negatedPlan (atLeastStep r (negatedFloor limit) (map negated ts))
 
 -- the resource step of a plan, for the resource at place r
 unfoldable pub resourceStep : Frame → ℕ → List Task → Outcome
-resourceStep f r ts = senseStep (f .sense) r (limitOn f r) ts
+resourceStep f r ts = senseStep (f .sense) r (floorAt f r) ts

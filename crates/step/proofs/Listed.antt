@@ -17,6 +17,7 @@ use Rattle.plan.specs.declared.Narrowed.{Narrowed}
 use Rattle.plan.specs.declared.Narrowed.the-variants.{Kept}
 use Rattle.plan.specs.Sets.{has}
 use Rattle.plan.specs.Tasks.{TaskFits}
+use Rattle.rules.specs.Frame.{Floor}
 use Rattle.rules.specs.Balance.{each}
 use Rattle.rules.specs.Balance.Outcome.{NoPlan, Plan}
 use Rattle.rules.specs.Step.{shortfall, narrowed, listedDays, atLeastStep}
@@ -35,7 +36,7 @@ use Rattle.idle.specs.Lively.{lively}
 use Rattle.step.specs.Least.{Under, canBeBarred, asksMore}
 use Rattle.idle.proofs.Lively.{dull-untouched}
 
-module _ (r : ℕ) (limit : ℤ → ℤ) (ss : List Stretch) (ts : List Task) (fit : Each (TaskFits 64) ts) {t : Task} (k : In t ts) where
+module _ (r : ℕ) (limit : Floor) (ss : List Stretch) (ts : List Task) (fit : Each (TaskFits 64) ts) {t : Task} (k : In t ts) where
   fits : TaskFits 64 t
   fits = each-in fit k
 
@@ -80,7 +81,7 @@ module _ (r : ℕ) (limit : ℤ → ℤ) (ss : List Stretch) (ts : List Task) (f
         let n = or-none (and low (lively t)) (ltZ (l .tight .0) (liftOf t)) (rw h at e) in
         let bar : lively t ≡ true → low ≡ false = λ v. false-in low (λ w. clash (and low (lively t)) (and-in low (lively t) w v) (n .0)) in
         narrowed-untouched r limit ts (listedDays ts) t (quiet-on (omega (z, n .1)) (λ v. omega (z, bar v))) live)
-        (λ h. narrowed-away r limit ts t h (listedDays ts) live)
+        (λ h. narrowed-away r t h limit ts (listedDays ts) live)
 
 -- where every task stays, so does the list
 each-kept : (f : Task → Narrowed) (ts : List Task) → ((t : Task) → In t ts → f t ≡ Kept t) → each f ts ≡ Plan ts
@@ -89,7 +90,7 @@ each-kept f [] h = refl
 each-kept f (t ∷ ts) h = rw (h t head, each-kept f ts (λ u k. h u (tail k)))
 
 -- no stretch is left: no rule touches any task
-pub none-left : (r : ℕ) (limit : ℤ → ℤ) (ts : List Task) → Each (TaskFits 64) ts → ((t : Task) → In t ts → Tells r limit ts t [])
+pub none-left : (r : ℕ) (limit : Floor) (ts : List Task) → Each (TaskFits 64) ts → ((t : Task) → In t ts → Tells r limit ts t [])
     → each (narrowed r limit ts (listedDays ts)) ts ≡ Plan ts
 unfolding any
 none-left r limit ts fit tells =
@@ -97,11 +98,11 @@ none-left r limit ts fit tells =
     narrowed-untouched r limit ts (listedDays ts) t (λ i. told-quiet r limit [] ts fit k i (tells t k .quiet i refl)) (live-fits 64 t (each-in fit k))
 
 -- with no day short, the step takes each task by itself
-pub step-enough : (r : ℕ) (limit : ℤ → ℤ) (ts : List Task) → any (shortfall r limit ts) (listedDays ts) ≡ false
+pub step-enough : (r : ℕ) (limit : Floor) (ts : List Task) → any (shortfall r limit ts) (listedDays ts) ≡ false
     → atLeastStep r limit ts ≡ each (narrowed r limit ts (listedDays ts)) ts
 unfolding atLeastStep
 step-enough r limit ts e = rw e
 
-pub step-short : (r : ℕ) (limit : ℤ → ℤ) (ts : List Task) → any (shortfall r limit ts) (listedDays ts) ≡ true → atLeastStep r limit ts ≡ NoPlan
+pub step-short : (r : ℕ) (limit : Floor) (ts : List Task) → any (shortfall r limit ts) (listedDays ts) ≡ true → atLeastStep r limit ts ≡ NoPlan
 unfolding atLeastStep
 step-short r limit ts e = rw e

@@ -7,7 +7,7 @@ ghost use lib.ListN.{length};
 ghost use Rattle.integers.specs.Lists.{Each};
 ghost use Rattle.plan.specs.Sets.{setBits};
 ghost use Rattle.plan.specs.Tasks.{Bounded, TaskFits};
-ghost use Rattle.rules.specs.Frame.{limitFrom};
+ghost use Rattle.rules.specs.Frame.{limitFrom, floor};
 ghost use Rattle.rules.specs.Step.{atLeastStep};
 ghost use Rattle.rows.specs.View.{tasksOf, bandsOf};
 ghost use Rattle.rows.specs.Changes.{outcomeOf, Notes};
@@ -15,6 +15,7 @@ ghost use Rattle.stretches.specs.View.{stretchesOf};
 ghost use Rattle.profile.specs.Lent.{Lent, Asks};
 ghost use Rattle.step.specs.Told.{EachByPage};
 ghost use Rattle.step.specs.Least.{lowered, Under, canBeBarred, asksMore};
+use plan::Kind;
 use plan::Narrowed;
 use plan::Power;
 use plan::Task;
@@ -117,6 +118,7 @@ pub fn step(
     b: &[BandRow],
     r: u64,
     limit: Power,
+    kind: Kind,
     keys: &mut [u64],
     spare: &mut [u64],
     ss: &mut [StretchRow],
@@ -124,10 +126,10 @@ pub fn step(
     requires { ⌜ Asks r limit (bandsOf (now b)) (length (now s)) ⌝ }
     requires { ⌜ Lent (length (now s)) (length (now b)) (length (now keys)) (length (now spare)) (length (now ss)) ⌝ }
     requires { ⌜ Each (TaskFits setBits) (tasksOf (now s)) ⌝ }
-    ensures outcome { λ o. ⌜ outcomeOf o (tasksOf (now (s .exit))) ≡ atLeastStep r (limitFrom r (limit .0) (bandsOf (now (b .entry)))) (tasksOf (now (s .entry))) ⌝ }
+    ensures outcome { λ o. ⌜ outcomeOf o (tasksOf (now (s .exit))) ≡ atLeastStep r (floor kind (limitFrom r (limit .0) (bandsOf (now (b .entry))))) (tasksOf (now (s .entry))) ⌝ }
     ensures noted { λ o. ⌜ Notes o (tasksOf (now (s .entry))) (tasksOf (now (s .exit))) ⌝ }
 {
-    let p = profile::profile(s, b, r, limit, keys, spare, ss);
+    let p = profile::profile(s, b, r, limit, kind, keys, spare, ss);
     if p.short {
         return Stepped {
             ok: false,

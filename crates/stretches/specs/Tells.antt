@@ -11,6 +11,7 @@ use Rattle.plan.specs.declared.Task.{Task}
 use Rattle.plan.specs.Powers.{powerHigh}
 use Rattle.plan.specs.Sets.{only}
 use Rattle.plan.specs.Tasks.{mostTasks}
+use Rattle.rules.specs.Frame.{Floor}
 use Rattle.rules.specs.Step.{running, sure, total, others, counts, needed, barred}
 use Rattle.stretches.specs.declared.Stretch.{Stretch}
 use Rattle.stretches.specs.View.{noStretch, onDay}
@@ -19,20 +20,20 @@ use Rattle.stretches.specs.View.{noStretch, onDay}
 abbrev pub big : ℤ
 big = pos (2 * mostTasks * natAbs powerHigh)
 
-module _ (r : ℕ) (limit : ℤ → ℤ) (ts : List Task) where
+module _ (r : ℕ) (limit : Floor) (ts : List Task) where
   -- how far all hopes together are above the day's limit
   unfoldable pub slackOn : ℤ → ℤ
-  slackOn i = total r ts i -ℤ limit i
+  slackOn i = total r ts i -ℤ limit .on i
 
   -- the same on a day that counts; on any other, more than any task asks
   unfoldable pub tightOn : ℤ → ℤ
-  tightOn i = if (counts r ts i) (slackOn i) big
+  tightOn i = if (counts r limit ts i) (slackOn i) big
 
   -- no rule touches the task on that day
   pub record Quiet (t : Task) (i : ℤ) : Type 0 where
     pub unneeded : needed r limit ts t i ≡ false
     pub unbarred : barred r limit ts t i ≡ false
-    pub unlifted : sure r i t ≡ true → (limit i -ℤ others r ts t i) ≤ℤ t .height .low .0
+    pub unlifted : sure r i t ≡ true → (limit .on i -ℤ others r ts t i) ≤ℤ t .height .low .0
 
   -- the stretch says what holds on each of its days
   pub record Exact (s : Stretch) : Type 0 where
@@ -50,7 +51,7 @@ pub record Uncut (r : ℕ) (t : Task) (s : Stretch) : Type 0 where
   pub same : only (t .set) r ≡ true → (i : ℤ) → onDay i s ≡ true → running r i t ≡ running r (s .from .0) t
 
 -- THE PROMISE
-pub record Tells (r : ℕ) (limit : ℤ → ℤ) (ts : List Task) (t : Task) (ss : List Stretch) : Type 0 where
+pub record Tells (r : ℕ) (limit : Floor) (ts : List Task) (t : Task) (ss : List Stretch) : Type 0 where
   pub ordered : Ordered ss
   pub exact : (k : ℕ) → k < length ss → Exact r limit ts (getD ss k noStretch)
   pub uncut : (k : ℕ) → k < length ss → Uncut r t (getD ss k noStretch)

@@ -9,7 +9,7 @@ ghost use Rattle.plan.specs.Tasks.{mostResources, mostBands, mostTasks};
 ghost use Rattle.rules.specs.Calls.{check};
 ghost use Rattle.rows.specs.View.{tasksOf, resourcesOf, bandsOf, frameOf};
 ghost use Rattle.format.specs.declared.Mark.the-variants.{PL, RS, LB, TK};
-ghost use Rattle.format.specs.Format.{mark, markSize, size, recordBytes, headerNumbers, resourceNumbers, bandNumbers, taskNumbers, resources, bands, tasks, bandsFrom, tasksFrom, fileLength};
+ghost use Rattle.format.specs.Format.{mark, markSize, resourceMark, size, recordBytes, headerNumbers, resourceNumbers, bandNumbers, taskNumbers, resources, bands, tasks, bandsFrom, tasksFrom, fileLength};
 ghost use Rattle.format.specs.Writing.{recordsBytes, written, laid, ResourceSmall, BandSmall, TaskSmall, roomFor};
 use format::Header;
 use format::Mark;
@@ -60,9 +60,10 @@ fn put_header(b: &mut [u8], h: Header)
 
 fn put_resource(b: &mut [u8], at: usize, q: Resource)
     requires { ⌜ (at + size RS ≤ length (now b)) × ResourceSmall q ⌝ }
-    ensures { λ _. ⌜ now (b .exit) ≡ sets (now (b .entry)) at (recordBytes RS (resourceNumbers q)) ⌝ }
+    ensures { λ _. ⌜ now (b .exit) ≡ sets (now (b .entry)) at (recordBytes (resourceMark q) (resourceNumbers q)) ⌝ }
 {
-    put_mark(b, at, Mark::RS);
+    let kind = q.kind;
+    put_mark(b, at, table::kind_mark(kind));
     put_signed(b, at + table::IDENTIFIER, q.id as i64);
     put_signed(b, at + table::LIMIT, q.limit.0);
 }
@@ -89,7 +90,7 @@ fn put_task(b: &mut [u8], at: usize, t: Task)
     put_powers(b, at + table::HEIGHT, t.height);
 }
 
-// All RS, one after another behind the PL record.
+// All RS, or RH in place of RS, one after another behind the PL record.
 fn put_resources(b: &mut [u8], q: &[ResourceRow])
     requires { ⌜ (bandsFrom (length (now q)) ≤ length (now b)) × Each ResourceSmall (resourcesOf (now q)) ⌝ }
     ensures { λ _. ⌜ now (b .exit) ≡ sets (now (b .entry)) (size PL) (recordsBytes resources (resourcesOf (now (q .entry)))) ⌝ }

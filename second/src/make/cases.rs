@@ -1,12 +1,12 @@
-//! Cases 1 to 9 of document 01, "Days tried on both sides", both halves of each, and cases of bands.
+//! Cases 1 to 9 of document 01, "Days tried on both sides", both halves of each, cases of bands and of held resources.
 
 use super::parts::*;
 use crate::plan::*;
-use crate::random::Random;
+use crate::random::{Aside, Random};
 
 /// One case after another, some with a limit one off; now and then a case of bands.
 pub fn documented_case(random: &mut Random, turn: u64) -> Plan {
-    let aside = &mut random.aside();
+    let aside = &mut random.aside(Aside::Bands);
     if aside.one_in(3) {
         return band_case(aside, turn);
     }
@@ -36,6 +36,21 @@ fn band_case(random: &mut Random, turn: u64) -> Plan {
         bands: case.bands,
         ..at_least(random, &case.limits, case.tasks)
     }
+}
+
+/// One case of a held resource after another, some with its limit one off.
+pub fn held_case(random: &mut Random, turn: u64) -> Plan {
+    let mut cases = held_cases();
+    let mut case = cases.swap_remove((turn % cases.len() as u64) as usize);
+    if random.one_in(3) {
+        case.limits[0] += random.within(-1, 1);
+    }
+    let mut plan = Plan {
+        bands: case.bands,
+        ..at_least(random, &case.limits, case.tasks)
+    };
+    plan.resources[0].kind = Kind::Held;
+    plan
 }
 
 /// "task written origin / duration / end / height"
@@ -99,6 +114,42 @@ fn band_cases() -> Vec<BandCase> {
         with_bands(&[0], &[(0, 4, 2), (0, 5, 0)], &needing),
         // a day that is bare while the band lasts
         with_bands(&[0], &[(0, 3, 9), (0, 5, 0)], &[lone, written(5, 1, 6, 0)]),
+    ]
+}
+
+/// The cases of a held resource that the tests of this program have worked out by hand; the held one has place 0.
+fn held_cases() -> Vec<BandCase> {
+    let (to, one) = (Range::new, Range::single);
+    let case_6 = [written(1, 2, 3, 2), written(5, 2, 7, 2)];
+    let posts = [written(0, 0, 0, 0), written(4, 0, 4, 0)];
+    let and = |task: Task| [posts[0], posts[1], task];
+    let elsewhere = Task {
+        set: Set::all(2),
+        ..posts[1]
+    };
+    let barred = Task {
+        set: Set::all(2),
+        ..written(4, 1, 5, 0)
+    };
+    vec![
+        // "Case 6 on a held resource is refusal 7."
+        with_bands(&[2], &[], &case_6),
+        with_bands(&[0], &[(0, 1, 2), (0, 3, 0), (0, 5, 2)], &case_6),
+        // two tasks of duration 0, and one alone
+        with_bands(&[1], &[], &posts),
+        with_bands(&[0], &[], &posts),
+        with_bands(&[5], &[], &posts[..1]),
+        // a need on bare days, on all of them and on one that a band picks
+        with_bands(&[1], &[], &and(wide(1, to(-3, 6), 4, one(1)))),
+        with_bands(
+            &[0],
+            &[(0, 2, 1), (0, 3, 0)],
+            &and(wide(1, to(-3, 6), 1, one(1))),
+        ),
+        // a task that could go elsewhere, and one that is barred there
+        with_bands(&[1, -9], &[], &[posts[0], elsewhere]),
+        with_bands(&[0, 1], &[(0, 1, 1), (0, 4, 0)], &[posts[0], barred]),
+        with_bands(&[0, 1], &[(0, 4, 0)], &[posts[0], barred]),
     ]
 }
 

@@ -1,22 +1,29 @@
 //! Damaged plan files: every refusal a file can give, cut, bent and random ones.
 
-use super::band_damage;
 use super::bands::{self, banded};
+use super::held::some_held;
 use super::parts::*;
 use super::plans::balanced;
-use crate::file::{self, unchecked_bytes, Head, Record, PL, RS, TK};
+use super::{band_damage, held_damage};
+use crate::file::{self, resource_record, unchecked_bytes, Head, Record, PL, RH, RS, TK};
 use crate::plan::*;
 use crate::program::READ_AT_MOST;
-use crate::random::Random;
+use crate::random::{Aside, Random};
 
 /// How many kinds of damage take turns.
 const KINDS: u64 = 60;
 
-/// A damaged file; the kinds take turns, now and then on a plan with bands, or
-/// with one of the kinds that damage bands in its place.
+/// A damaged file; the kinds take turns, now and then on a plan with bands or held
+/// resources, or with one of the kinds that damage those in its place.
 pub fn damaged(random: &mut Random, turn: u64) -> Vec<u8> {
     let mut plan = sound_plan(random);
-    let aside = &mut random.aside();
+    let kinds = &mut random.aside(Aside::Kinds);
+    match kinds.within(0, 5) {
+        0 => return held_damage::damaged(kinds, plan),
+        1 => plan = some_held(kinds, plan),
+        _ => (),
+    }
+    let aside = &mut random.aside(Aside::Bands);
     match aside.within(0, 5) {
         0 | 1 => return band_damage::damaged(aside, plan),
         2 => plan = banded(aside, plan),
@@ -44,12 +51,16 @@ fn sound_plan(random: &mut Random) -> Plan {
 
 // ---- Damaged records ----
 
-/// A record of the plan's file and where it starts: PL, an RS, a TK.
+/// A record of the plan's file and where it starts: PL, a resource's, a TK.
 fn some_record(random: &mut Random, plan: &Plan, kind: u64) -> (Record, usize) {
     let (resources, bands) = (plan.resources.len(), plan.bands.len());
     match kind {
         0 => (PL, 0),
-        1 => (RS, file::length(random.place(resources), 0, 0)),
+        1 => {
+            let place = random.place(resources);
+            let record = resource_record(plan.resources[place].kind);
+            (record, file::length(place, 0, 0))
+        }
         _ => {
             let tasks = random.place(plan.tasks.len());
             (TK, file::length(resources, bands, tasks))
@@ -86,7 +97,7 @@ fn bent_mark(random: &mut Random, plan: &Plan, kind: u64) -> Vec<u8> {
         // The mark of another kind of record.
         _ => match record {
             PL => random.pick(&[RS, TK]).mark,
-            RS => random.pick(&[TK, PL]).mark,
+            RS | RH => random.pick(&[TK, PL]).mark,
             _ => random.pick(&[RS, PL]).mark,
         },
     };
@@ -159,7 +170,7 @@ fn left_over(random: &mut Random, mut plan: Plan, kind: u64) -> Vec<u8> {
 /// As many resources and tasks as there may be, and for every second one as many bands.
 fn longest(random: &mut Random) -> Plan {
     let tasks = vec![single_task(0, 1, 1, 1); MOST_TASKS];
-    let aside = &mut random.aside();
+    let aside = &mut random.aside(Aside::Bands);
     let count = aside.pick(&[0, MOST_BANDS]);
     Plan {
         bands: bands::rising(aside, MOST_RESOURCES, count),
@@ -174,7 +185,7 @@ fn bent_resources(random: &mut Random, mut plan: Plan, kind: u64) -> Plan {
     while plan.resources.len() < 3 {
         let limit = random.within(-2, 2);
         let id = 1_000 + plan.resources.len() as i32;
-        plan.resources.push(Resource { id, limit });
+        plan.resources.push(Resource::plain(id, limit));
     }
     let last = plan.resources.len() - 1;
     let place = random.place(plan.resources.len());

@@ -5,13 +5,15 @@ mod bands;
 mod cases;
 mod damage;
 mod ends;
+mod held;
+mod held_damage;
 mod parts;
 mod plans;
 mod rules;
 
 use crate::file::unchecked_bytes;
 use crate::plan::Plan;
-use crate::random::Random;
+use crate::random::{Aside, Random};
 use crate::stream;
 
 /// The kinds of valid plans that take turns, each once in a turn.
@@ -23,9 +25,14 @@ pub const KINDS: u64 = VALID_KINDS + DAMAGED;
 
 /// Of the valid plans made without bands so many in a hundred are given some.
 const BANDED_PERCENT: i64 = 45;
+/// Of the valid plans but for the longest so many in a hundred are made so that held days count.
+const HELD_PERCENT: i64 = 20;
+/// Of the other valid plans so many in a hundred are given held resources.
+const GIVEN_HELD_PERCENT: i64 = 22;
 
 const AT_ENDS: u64 = 15;
 const LARGE: u64 = 16;
+const CASES: u64 = 17;
 /// The kinds that take long day by day: the ends of every range, many tasks.
 pub const LONG_KINDS: [u64; 2] = [AT_ENDS, LARGE];
 
@@ -33,20 +40,36 @@ pub const LONG_KINDS: [u64; 2] = [AT_ENDS, LARGE];
 /// a kind the turns go on (`turn`), so that each comes up in any long stream.
 ///
 /// What concerns bands is drawn from a source aside, so that a plan that gets none
-/// is the one that this number had before there were bands.
+/// is the one that this number had before there were bands; so is what concerns
+/// resources' kinds.
 pub fn plan_file(seed: u64, n: u64) -> Vec<u8> {
     let random = &mut Random::new(seed, n);
     let (turn, kind) = (n / KINDS, n % KINDS);
     if kind >= VALID_KINDS {
         return damage::damaged(random, DAMAGED * turn + kind - VALID_KINDS);
     }
-    let plan = valid_plan(random, kind, turn);
-    let plan = parts::varied(random, plan);
-    let aside = &mut random.aside();
+    let kinds = &mut random.aside(Aside::Kinds);
+    let held = held_plan(kinds, kind, turn);
+    let is_given = held.is_none() && kinds.within(0, 99) < GIVEN_HELD_PERCENT;
+    let plan = held.unwrap_or_else(|| valid_plan(random, kind, turn));
+    let mut plan = parts::varied(random, plan);
+    let aside = &mut random.aside(Aside::Bands);
     if plan.bands.is_empty() && aside.within(0, 99) < BANDED_PERCENT {
-        return unchecked_bytes(&bands::banded(aside, plan));
+        plan = bands::banded(aside, plan);
+    }
+    if is_given {
+        plan = held::some_held(kinds, plan);
     }
     unchecked_bytes(&plan)
+}
+
+/// Now and then a plan in which held days count, in the place of one of this kind.
+fn held_plan(random: &mut Random, kind: u64, turn: u64) -> Option<Plan> {
+    match kind {
+        AT_ENDS | LARGE => None,
+        CASES => random.one_in(4).then(|| cases::held_case(random, turn)),
+        _ => (random.within(0, 99) < HELD_PERCENT).then(|| held::held(random)),
+    }
 }
 
 fn valid_plan(random: &mut Random, kind: u64, turn: u64) -> Plan {

@@ -46,7 +46,7 @@ pub fn balanced_task(set: Set, origin: Range, duration: Range, height: Range) ->
     }
 }
 
-/// Resources with different identifiers and these limits.
+/// Plain resources with different identifiers and these limits.
 fn resources(random: &mut Random, limits: &[i64]) -> Vec<Resource> {
     let mut list: Vec<Resource> = Vec::new();
     for limit in limits {
@@ -55,7 +55,7 @@ fn resources(random: &mut Random, limits: &[i64]) -> Vec<Resource> {
         while list.iter().any(|earlier| earlier.id == id) {
             id = identifier(random.bits());
         }
-        list.push(Resource { id, limit: *limit });
+        list.push(Resource::plain(id, *limit));
     }
     list
 }
@@ -69,7 +69,7 @@ fn identifier(bits: u64) -> i32 {
     }
 }
 
-/// An at-least plan of these limits and tasks.
+/// An at-least plan of these limits and tasks, its resources plain.
 pub fn at_least(random: &mut Random, limits: &[i64], tasks: Vec<Task>) -> Plan {
     Plan {
         sense: Sense::AtLeast,

@@ -1,9 +1,9 @@
 //! Valid plans: random ones, ones with an allowed plan inside, large ones.
 
 use super::parts::*;
-use crate::allowed::{level_on, Choice};
+use crate::allowed::{checked_days, level_on, Choice};
 use crate::plan::*;
-use crate::random::Random;
+use crate::random::{Aside, Random};
 use crate::steps;
 
 /// A small number of resources, now and then up to all there may be.
@@ -24,26 +24,50 @@ struct Size {
     tasks: usize,
 }
 
+impl Size {
+    fn small(random: &mut Random) -> Size {
+        Size {
+            resources: resource_count(random),
+            days: random.within(2, 9),
+            tasks: random.count(1, 6),
+        }
+    }
+
+    /// Every resource plain.
+    fn all_plain(&self) -> Vec<Kind> {
+        vec![Kind::Plain; self.resources]
+    }
+}
+
 /// A plan made around a choice for each task: the limits, those of bands too, are
 /// what that choice reaches (less some slack), plus `beyond`; the ranges are widened.
 pub fn with_allowed_plan(random: &mut Random, beyond: i64) -> Plan {
-    let size = Size {
-        resources: resource_count(random),
-        days: random.within(2, 9),
-        tasks: random.count(1, 6),
-    };
-    around_allowed_plan(random, size, beyond)
+    let size = Size::small(random);
+    around_allowed_plan(random, &size, &size.all_plain(), beyond)
 }
 
-fn around_allowed_plan(random: &mut Random, size: Size, beyond: i64) -> Plan {
-    let chosen: Vec<Choice> = (0..size.tasks).map(|_| choice(random, &size)).collect();
+/// The same with resources of which every second one is held.
+pub fn with_allowed_held_plan(random: &mut Random, beyond: i64) -> Plan {
+    let size = Size::small(random);
+    let kinds: Vec<Kind> = (0..size.resources)
+        .map(|_| random.pick(&[Kind::Plain, Kind::Held]))
+        .collect();
+    around_allowed_plan(random, &size, &kinds, beyond)
+}
+
+fn around_allowed_plan(random: &mut Random, size: &Size, kinds: &[Kind], beyond: i64) -> Plan {
+    let chosen: Vec<Choice> = (0..size.tasks).map(|_| choice(random, size)).collect();
+    let checked: Vec<Vec<i64>> = (0..size.resources)
+        .map(|place| checked_days(&chosen, place, kinds[place]))
+        .collect();
     let slack = random.pick(&[0, 0, 0, 1, 3]);
-    let reached = |random: &mut Random, place, days| match least_level(&chosen, place, days) {
-        Some(level) => level - slack + beyond,
-        None => random.within(-4, 8),
+    let reached = |random: &mut Random, place: usize, days: Range| {
+        let least = least_level(&chosen, place, &checked[place], days);
+        let of_none = || random.within(-4, 8);
+        least.map_or_else(of_none, |level| level - slack + beyond)
     };
-    let aside = &mut random.aside();
-    let starts = band_starts(aside, &chosen, size.resources);
+    let aside = &mut random.aside(Aside::Bands);
+    let starts = band_starts(aside, &checked);
     let limits: Vec<i64> = (0..size.resources)
         .map(|place| reached(random, place, stretch(&starts, place, DAYS.low)))
         .collect();
@@ -60,25 +84,24 @@ fn around_allowed_plan(random: &mut Random, size: Size, beyond: i64) -> Plan {
         .iter()
         .map(|choice| widened(random, choice, size.resources, most))
         .collect();
-    Plan {
-        bands,
-        ..at_least(random, &limits, tasks)
+    let mut plan = at_least(random, &limits, tasks);
+    for (resource, kind) in plan.resources.iter_mut().zip(kinds) {
+        resource.kind = *kind;
     }
+    Plan { bands, ..plan }
 }
 
 /// Place and first day of each band, in order: for one plan in three, on some of
-/// the days that the chosen tasks cover.
-fn band_starts(random: &mut Random, chosen: &[Choice], resources: usize) -> Vec<(usize, i64)> {
+/// the days that are checked on each resource.
+fn band_starts(random: &mut Random, checked: &[Vec<i64>]) -> Vec<(usize, i64)> {
     let mut starts = Vec::new();
     if !random.one_in(3) {
         return starts;
     }
-    for place in 0..resources {
-        let there = chosen.iter().filter(|choice| choice.place == place);
-        let covered: Vec<i64> = there.flat_map(Choice::days).collect();
-        if !covered.is_empty() {
+    for (place, days) in checked.iter().enumerate() {
+        if !days.is_empty() {
             // At most four each, so that there are never more than 64.
-            let some = (0..random.within(0, 4)).map(|_| (place, random.pick(&covered)));
+            let some = (0..random.within(0, 4)).map(|_| (place, random.pick(days)));
             starts.extend(some);
         }
     }
@@ -108,13 +131,10 @@ fn choice(random: &mut Random, size: &Size) -> Choice {
     }
 }
 
-/// The least level on a resource over all of these days that are covered there, if any is.
-fn least_level(chosen: &[Choice], place: usize, days: Range) -> Option<i64> {
-    let there = chosen.iter().filter(|choice| choice.place == place);
-    let covered = there
-        .flat_map(Choice::days)
-        .filter(|day| days.values().contains(day));
-    covered.map(|day| level_on(chosen, place, day)).min()
+/// The least level on a resource over all of these days that are checked there, if any is.
+fn least_level(chosen: &[Choice], place: usize, checked: &[i64], days: Range) -> Option<i64> {
+    let within = checked.iter().filter(|day| days.values().contains(day));
+    within.map(|day| level_on(chosen, place, *day)).min()
 }
 
 /// The task of a choice, with more values beside the chosen ones.
@@ -244,7 +264,7 @@ pub fn large(random: &mut Random, turn: u64) -> Plan {
             tasks,
         };
         let beyond = random.pick(&[0, 0, 0, 1]);
-        return around_allowed_plan(random, size, beyond);
+        return around_allowed_plan(random, &size, &size.all_plain(), beyond);
     }
     large_balanced(random, resources, tasks)
 }

@@ -2,7 +2,7 @@
 #![allow(dead_code)]
 
 use second::random::Random;
-use second::{Band, Plan, Range, Resource, Sense, Set, Task};
+use second::{Band, Kind, Plan, Range, Resource, Sense, Set, Task};
 
 /// The range that document 01 writes as "0..9".
 pub fn to(low: i64, high: i64) -> Range {
@@ -31,12 +31,9 @@ pub fn wide(set: u64, origin: Range, duration: Range, end: Range, height: Range)
     }
 }
 
-/// A plan without bands whose resources have identifiers 1, 2, 3 ...
+/// A plan without bands whose resources are plain and have identifiers 1, 2, 3 ...
 pub fn plan(sense: Sense, limits: &[i64], tasks: &[Task]) -> Plan {
-    let resource = |(place, limit): (usize, &i64)| Resource {
-        id: place as i32 + 1,
-        limit: *limit,
-    };
+    let resource = |(place, limit): (usize, &i64)| Resource::plain(place as i32 + 1, *limit);
     Plan {
         sense,
         resources: limits.iter().enumerate().map(resource).collect(),
@@ -49,11 +46,19 @@ pub fn at_least(limit: i64, tasks: &[Task]) -> Plan {
     plan(Sense::AtLeast, &[limit], tasks)
 }
 
+/// The same plan with the resources at these places held.
+pub fn with_held(mut plan: Plan, places: &[usize]) -> Plan {
+    for place in places {
+        plan.resources[*place].kind = Kind::Held;
+    }
+    plan
+}
+
 /// Case 9 of document 01, "whole output".
 pub fn case_9() -> Plan {
     Plan {
         sense: Sense::AtLeast,
-        resources: vec![Resource { id: 7, limit: 4 }, Resource { id: 9, limit: 3 }],
+        resources: vec![Resource::plain(7, 4), Resource::plain(9, 3)],
         bands: Vec::new(),
         tasks: vec![
             wide(1, to(1, 2), to(2, 2), to(3, 4), to(0, 1)),
@@ -94,6 +99,21 @@ fn some_bands(random: &mut Random, resources: usize) -> Vec<Band> {
     bands
 }
 
+/// The same plan with some of its resources held, of three plans in five.
+fn with_some_held(random: &mut Random, mut plan: Plan) -> Plan {
+    let kinds = random.pick(&[
+        [Kind::Plain; 2],
+        [Kind::Plain; 2],
+        [Kind::Plain, Kind::Held],
+        [Kind::Plain, Kind::Held],
+        [Kind::Held; 2],
+    ]);
+    for resource in &mut plan.resources {
+        resource.kind = random.pick(&kinds);
+    }
+    plan
+}
+
 fn sense(random: &mut Random) -> Sense {
     random.pick(&[Sense::AtMost, Sense::AtLeast])
 }
@@ -115,10 +135,11 @@ pub fn small_plan(random: &mut Random) -> Plan {
         };
         tasks.push(wide(set.0, origin, duration, end, height));
     }
-    Plan {
+    let plan = Plan {
         bands: some_bands(random, count),
         ..plan(sense(random), &limits, &tasks)
-    }
+    };
+    with_some_held(random, plan)
 }
 
 /// A plan with one value in each range and one resource in each set.
@@ -138,8 +159,9 @@ pub fn single_value_plan(random: &mut Random) -> Plan {
         task.set = Set::only(random.place(count));
         tasks.push(task);
     }
-    Plan {
+    let plan = Plan {
         bands: some_bands(random, count),
         ..plan(sense(random), &limits, &tasks)
-    }
+    };
+    with_some_held(random, plan)
 }

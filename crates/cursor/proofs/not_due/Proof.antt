@@ -12,17 +12,17 @@ enum-told c = search needs
 enum-known-got : tie.Need-enum-known-got
 enum-known-got c = search needs
 
-same-mark-requires : tie.Need-same-mark-requires
-same-mark-requires c κs = search needs
+stands-for-requires : tie.Need-stands-for-requires
+stands-for-requires c κs = search needs
 
 returns : tie.Need-returns
 returns c = rw (c .enum-told .given .1)
 
 returns-2 : tie.Need-returns-2
-returns-2 c = rw (c .before .before .before .got .given .1, sym (c .before .same-mark .ensures) ∙ c .if1 .taken)
+returns-2 c = rw (c .before .before .before .got .given .1, sym (c .before .stands-for .ensures) ∙ c .if1 .taken)
 
 returns-3 : tie.Need-returns-3
-returns-3 c = rw (c .before .before .before .got .given .1, sym (c .before .same-mark .ensures) ∙ c .if1 .left)
+returns-3 c = rw (c .before .before .before .got .given .1, sym (c .before .stands-for .ensures) ∙ c .if1 .left)
 
 returns-4 : tie.Need-returns-4
 returns-4 c = let a = c .before .args in wrong-mark (a .k) (a .at) (a .got) (0 ∷ 1 ∷ 2 ∷ 3 ∷ 5 ∷ []) tt tt (c .match .keys3)
@@ -30,4 +30,4 @@ returns-4 c = let a = c .before .args in wrong-mark (a .k) (a .at) (a .got) (0 �
 pub not-due-spec : {M : Type 1} → statement M
 not-due-spec =
     tie.close
-    (tie.spec enum-told enum-known-got same-mark-requires returns returns-2 returns-3 returns-4)
+    (tie.spec enum-told enum-known-got stands-for-requires returns returns-2 returns-3 returns-4)

@@ -21,11 +21,17 @@ resource-record-requires c κs = search needs
 enum-told-3 : tie.Need-enum-told-3
 enum-told-3 c = search needs
 
-band-record-requires : tie.Need-band-record-requires
-band-record-requires c κs = search needs
+resource-record-requires-2 : tie.Need-resource-record-requires-2
+resource-record-requires-2 c κs = search needs
 
 enum-told-4 : tie.Need-enum-told-4
 enum-told-4 c = search needs
+
+band-record-requires : tie.Need-band-record-requires
+band-record-requires c κs = search needs
+
+enum-told-5 : tie.Need-enum-told-5
+enum-told-5 c = search needs
 
 task-record-requires : tie.Need-task-record-requires
 task-record-requires c κs = search needs
@@ -46,13 +52,19 @@ returns-3 : tie.Need-returns-3
 returns-3 c =
     let m = c .before in
     let a = m .before .before .before .args in
-    c .band-record .ensures ∙ ap (λ (k : Mark). recordOf k (a .at) (a .b .now)) (sym (m .enum-told3 .given .1))
+    c .resource-record2 .ensures ∙ ap (λ (k : Mark). recordOf k (a .at) (a .b .now)) (sym (m .enum-told3 .given .1))
 
 returns-4 : tie.Need-returns-4
 returns-4 c =
     let m = c .before in
     let a = m .before .before .before .args in
-    c .task-record .ensures ∙ ap (λ (k : Mark). recordOf k (a .at) (a .b .now)) (sym (m .enum-told4 .given .1))
+    c .band-record .ensures ∙ ap (λ (k : Mark). recordOf k (a .at) (a .b .now)) (sym (m .enum-told4 .given .1))
+
+returns-5 : tie.Need-returns-5
+returns-5 c =
+    let m = c .before in
+    let a = m .before .before .before .args in
+    c .task-record .ensures ∙ ap (λ (k : Mark). recordOf k (a .at) (a .b .now)) (sym (m .enum-told5 .given .1))
 
 pub record-of-spec : {M : Type 1} → statement M
 record-of-spec =
@@ -63,10 +75,13 @@ record-of-spec =
     enum-told-2
     resource-record-requires
     enum-told-3
-    band-record-requires
+    resource-record-requires-2
     enum-told-4
+    band-record-requires
+    enum-told-5
     task-record-requires
     returns
     returns-2
     returns-3
-    returns-4)
+    returns-4
+    returns-5)

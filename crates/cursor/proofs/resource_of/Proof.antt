@@ -1,10 +1,11 @@
--- The identifier, then the limit.
+-- The identifier, then the limit, and the kind as it was told.
 use native.Mathlib.Omega.{arith}
 use mir.Syntax.{w32, w64}
 use Rattle.integers.proofs.Z.{back}
 use Rattle.format.specs.declared.Mark.the-variants.{RS}
 use Rattle.format.specs.Format.{resourceFrom}
 use Rattle.format.proofs.Records.{numbers-placed}
+use Rattle.format.proofs.Layouts.{kind-back}
 use borrow.Author.Needs.{needs}
 use Rattle.cursor.proofs.resource_of.Statement.{statement}
 use Rattle.cursor.proofs.resource_of.Tie as tie
@@ -19,7 +20,7 @@ returns : tie.Need-returns
 unfolding resourceFrom
 returns c =
     let id = c .before .id-at in
-    rw (numbers-placed RS (c .before .before .before .args .b .now), back w32 (id .result) (omega arith), back w64 (c .cell-at .result) (omega arith), id .ensures, c .cell-at .ensures)
+    rw (numbers-placed RS (c .before .before .before .args .b .now), back w32 (id .result) (omega arith), back w64 (c .cell-at .result) (omega arith), id .ensures, c .cell-at .ensures, kind-back (c .before .before .before .args .kind))
 
 pub resource-of-spec : {M : Type 1} → statement M
 resource-of-spec = tie.close (tie.spec id-at-requires cell-at-requires returns)

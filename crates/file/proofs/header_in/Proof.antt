@@ -1,5 +1,5 @@
 -- The PL record that was handed out, then its checks.
-use mathlib.Core.Path.{_≡_, sym, ap, _∙_}
+use mathlib.Core.Path.{_≡_, refl, sym, ap, _∙_}
 use mathlib.Core.List.{List, [], _∷_}
 use Prim.Native.Nat.{ℕ}
 use Rattle.plan.specs.declared.Checked.the-variants.{Accepted}
@@ -7,6 +7,7 @@ use Rattle.format.specs.declared.Mark.the-variants.{PL}
 use Rattle.format.specs.declared.HeaderAnswer.{HeaderAnswer}
 use Rattle.format.specs.Reading.{due, headerIn, readHeader}
 use Rattle.format.specs.declared.Header.{Header}
+use Rattle.format.proofs.Records.{due-alone}
 use Rattle.cursor.specs.declared.Cursor.{Cursor}
 use Rattle.cursor.specs.declared.Record.{Record}
 use Rattle.cursor.specs.Handed.{recordAt}
@@ -18,7 +19,7 @@ use Rattle.file.proofs.header_in.Tie as tie
 -- a PL record at a file's start was due, and it holds the file's header
 taken : {got : Record} {h : Header} {c : Cursor} (file : List ℕ) → got ≡ recordAt file 0 → got ≡ Record.Plan h c → (due PL 0 file ≡ Accepted) × (h ≡ headerIn file)
 unfolding recordAt headerIn
-taken file e g = let w = plan-taken 0 file e g in (w .0, w .1)
+taken file e g = let w = plan-taken 0 file e g in (rw (due-alone PL file refl) at (w .0), w .1)
 
 enum-known-got : tie.Need-enum-known-got
 enum-known-got c = search needs
@@ -28,7 +29,9 @@ not-due-requires c κs = search needs
 
 returns : tie.Need-returns
 unfolding readHeader recordAt
-returns c = λ file e. rw (refused 0 file e PL (1 ∷ 2 ∷ 3 ∷ 4 ∷ 5 ∷ 6 ∷ []) tt (c .before .match .keys2), c .not-due .ensures)
+returns c = λ file e.
+    let d = rw (due-alone PL file refl) at (refused 0 file e PL (1 ∷ 2 ∷ 3 ∷ 4 ∷ 5 ∷ 6 ∷ []) tt (c .before .match .keys2)) in
+    rw (d, c .not-due .ensures)
 
 check-header-requires : tie.Need-check-header-requires
 check-header-requires c κs = search needs

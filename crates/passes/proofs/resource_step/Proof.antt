@@ -1,15 +1,16 @@
--- The step's own function asked with the resource's limit; what it touched is noted.
+-- The step's own function asked with the resource's limit and kind; what it touched is noted.
 use borrow.Author.Needs.{needs}
 use native.Mathlib.Omega.{arith}
-use mathlib.Core.Path.{refl, sym, ap, _∙_, subst}
+use mathlib.Core.Path.{refl, sym, ap₂, _∙_, subst}
 use mathlib.Core.List.{List}
 use Prim.Native.Nat.{_<_}
 use Rattle.integers.specs.Ends.{Within}
+use Rattle.plan.specs.declared.Kind.{Kind}
 use Rattle.plan.specs.declared.Power.{Power}
 use Rattle.plan.specs.declared.Task.{Task}
 use Rattle.plan.specs.Powers.{powerEnds}
 use Rattle.plan.specs.Sets.{union}
-use Rattle.rules.specs.Frame.{Frame, resourceCount, limitFrom, limitOn}
+use Rattle.rules.specs.Frame.{Frame, resourceCount, limitFrom, limitOn, floor}
 use Rattle.rules.specs.Step.{atLeastStep}
 use Rattle.rules.proofs.Checks.{Accepts, accepts, check-wide}
 use Rattle.rows.specs.View.{tasksOf, atLeast}
@@ -37,9 +38,12 @@ small c = place-small (c .pre .0 .1) (c .args .r) (c .pre .0 .0)
 limit-at-requires : tie.Need-limit-at-requires
 limit-at-requires c κs = search needs
 
+kind-at-requires : tie.Need-kind-at-requires
+kind-at-requires c κs = search needs
+
 step-requires : tie.Need-step-requires
 step-requires c κs =
-    let l = c .before .before .before .before in
+    let l = c .before .before .before .before .before in
     let b = l .before .before .before in
     let k = known b in
     let r = b .args .r in (
@@ -57,7 +61,7 @@ some-touched-requires : tie.Need-some-touched-requires
 some-touched-requires c κs = search needs
 
 without-resource-requires : tie.Need-without-resource-requires
-without-resource-requires c κs = small (c .before .before .before .before .before .before .before .before .before .before .before .before .before .before .before)
+without-resource-requires c κs = small (c .before .before .before .before .before .before .before .before .before .before .before .before .before .before .before .before)
 
 same-length : tie.Need-same-length
 same-length c = search needs
@@ -75,19 +79,23 @@ returns : tie.Need-returns
 unfolding limitOn union
 returns c =
     let d = c .before .before .before .before .before .before .before .before .before in
-    let l = d .before .before .before .before .before in
+    let g = d .before .before .before .before .before in
+    let l = g .before in
     let b = l .before .before .before in
     let p = b .args .p in
     let r = b .args .r in
     rw (c .before .before .some-touched .ensures, c .before .without-resource .ensures)
     (step-took (f b) refl (ts b) (tasksOf (d .step .last .0)) (b .pre .0 .1 .accepted) (d .step .result) (d .step .ensures .1) r (inside b) (p .changed) (p .mask) (b .pre .1)
-    (d .step .ensures .0 ∙ ap (λ (x : Power). atLeastStep r (limitFrom r (x .0) (f b .bands)) (ts b)) (l .limit-at .ensures) ∙ sym (at-least-step (f b) refl r (ts b))))
+    (d .step .ensures .0
+    ∙ ap₂ (λ (k : Kind) (x : Power). atLeastStep r (floor k (limitFrom r (x .0) (f b .bands))) (ts b)) (g .kind-at .ensures) (l .limit-at .ensures)
+    ∙ sym (at-least-step (f b) refl r (ts b))))
 
 pub resource-step-spec : {M : Type 1} → statement M
 resource-step-spec =
     tie.close
     (tie.spec
     limit-at-requires
+    kind-at-requires
     step-requires
     some-touched-requires
     without-resource-requires

@@ -15,12 +15,27 @@ id-of-requires c κs = search needs
 array-copy-out-t9 : tie.Need-array-copy-out-t9
 array-copy-out-t9 c = search needs
 
+array-copy-out-kind-of : tie.Need-array-copy-out-kind-of
+array-copy-out-kind-of c = search needs
+
+kind-of-requires : tie.Need-kind-of-requires
+kind-of-requires c κs = search needs
+
 returns : tie.Need-returns
 unfolding resourceOf
 returns c =
-    let b = c .before in
-    simp (back w32, b .id-of .ok) (simp (b .id-of .ensures, back w64, b .before .id-of-arg .given, c .t9 .given))
+    let t = c .before .before in
+    let b = t .before in
+    simp (back w32, b .id-of .ok)
+    (simp (b .id-of .ensures, back w64, b .before .id-of-arg .given, t .t9 .given, c .kind-of .ensures, c .before .kind-of-arg .given))
 
 pub resource-of-spec : {M : Type 1} → statement M
 resource-of-spec =
-    tie.close (tie.spec array-copy-out-id-of id-of-requires array-copy-out-t9 returns)
+    tie.close
+    (tie.spec
+    array-copy-out-id-of
+    id-of-requires
+    array-copy-out-t9
+    array-copy-out-kind-of
+    kind-of-requires
+    returns)

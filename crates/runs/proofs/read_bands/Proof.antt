@@ -12,6 +12,7 @@ use Rattle.rows.proofs.View.{length-bands}
 use Rattle.format.specs.declared.Mark.the-variants.{LB}
 use Rattle.format.specs.Format.{marked, size, numbersIn, bandFrom}
 use Rattle.format.specs.Reading.{due, lookedAt}
+use Rattle.format.proofs.Records.{due-alone}
 use Rattle.cursor.specs.Handed.{recordAt}
 use Rattle.cursor.proofs.Due.{mark-told, band-taken, refused}
 use Rattle.runs.proofs.Going.{Going, short-due, many-due, full-due, going-starts, going-on, going-refused, going-ends}
@@ -37,7 +38,8 @@ taken : (c : tie.After-known-told Inv-loop μ-loop) → let l = c .before .befor
 unfolding recordAt
 taken c =
     let l = c .before .before .before .before .before .before in
-    band-taken (l .loop .c .at) (rest l) (c .before .before .before .next-due-at .ensures) (c .before .got .given .1)
+    let w = band-taken (l .loop .c .at) (rest l) (c .before .before .before .next-due-at .ensures) (c .before .got .given .1) in
+    (rw (due-alone LB (rest l) refl) at (w .0), w .1, w .2)
 
 loop-holds : tie.Need-loop-holds Inv-loop μ-loop
 loop-holds c = let a = c .before .args in (refl, going-starts (a .file .now) (a .from) (bandsOf (a .b .now)))
@@ -61,7 +63,7 @@ returns c =
     let l = c .before .before .before .before in
     let at = l .loop .c .at in
     let b₀ = l .before .before .args .b .now in
-    let d = refused at (rest l) (c .before .next-due-at .ensures) LB (0 ∷ 1 ∷ 3 ∷ 4 ∷ 5 ∷ 6 ∷ []) tt (c .match .keys2) in
+    let d = rw (due-alone LB (rest l) refl) at (refused at (rest l) (c .before .next-due-at .ensures) LB (0 ∷ 1 ∷ 3 ∷ 4 ∷ 5 ∷ 6 ∷ []) tt (c .match .keys2)) in
     (rw (← length-bands b₀) (going-refused (l .loop .inv .1) m (short-due (length (bandsOf b₀)) (l .loop .k) at (rest l) m d)), tt)
 
 same-length-2 : tie.Need-same-length-2 Inv-loop μ-loop

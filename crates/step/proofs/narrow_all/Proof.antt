@@ -6,13 +6,13 @@ use mathlib.Core.Logic.{⊎-elim}
 use mathlib.Core.Bool.{false}
 use mathlib.Core.List.{List}
 use Prim.Native.Nat.{ℕ, _≤_, _<_, _-_}
-use lib.IntN.{ℤ}
 use lib.ListN.{length}
 use Rattle.integers.specs.Lists.{In}
 use Rattle.integers.proofs.Tests.{clash}
 use Rattle.integers.proofs.Lists.{in-at, each-in}
 use Rattle.plan.specs.declared.Task.{Task}
 use Rattle.plan.specs.Tasks.{noTask, TaskFits}
+use Rattle.rules.specs.Frame.{Floor}
 use Rattle.rules.specs.Balance.{each}
 use Rattle.rules.specs.Step.{narrowed, listedDays}
 use Rattle.rules.proofs.Walk.{eachLeft, each-start, each-kept, each-same, each-out, each-end}
@@ -29,7 +29,7 @@ use Rattle.step.proofs.narrow_all.Tie as tie
 -- what is left to do gives the answer
 abbrev Left : ℕ → List Stretch → List Task → ℕ → List Task → Type 0
 Left r ss ts i us =
-    (limit : ℤ → ℤ) → TellsAll r limit ts ss → eachLeft (narrowed r limit ts (listedDays ts)) i us ≡ each (narrowed r limit ts (listedDays ts)) ts
+    (limit : Floor) → TellsAll r limit ts ss → eachLeft (narrowed r limit ts (listedDays ts)) i us ≡ each (narrowed r limit ts (listedDays ts)) ts
 
 abbrev Inv-loop : tie.InvT-loop
 Inv-loop s₀ r ss l touched₀ i₀ s touched i =

@@ -10,7 +10,7 @@ use Rattle.integers.specs.Lists.{In}
 use Rattle.integers.proofs.Tests.{clash}
 use Rattle.integers.proofs.Lists.{each-so}
 use Rattle.plan.specs.declared.Task.{Task}
-use Rattle.rules.specs.Frame.{limitFrom}
+use Rattle.rules.specs.Frame.{limitFrom, floor}
 use Rattle.rules.specs.Step.{shortfall, listedDays}
 use Rattle.rows.specs.View.{tasksOf, bandsOf}
 use Rattle.rows.proofs.Changes.{touched-self}
@@ -44,7 +44,7 @@ returns : tie.Need-returns
 returns c =
     let d = c .before .before .before .before .before .before in
     let b = c .before .before .before .before .before .before .before .before .before .before .before .before .before in
-    let limit = limitFrom (b .args .r) (b .args .limit .0) (bandsOf (b .args .b .now)) in (
+    let limit = floor (b .args .kind) (limitFrom (b .args .r) (b .args .limit .0) (bandsOf (b .args .b .now))) in (
       sym (step-short (b .args .r) limit (tasksOf (b .args .s .now)) (sym (d .profile .ensures .1 .short-is) ∙ c .if1 .taken)),
       λ h. clash false h refl,
     )
@@ -66,9 +66,9 @@ returns-2 c =
     let d = c .before .before .before .before .before .before .before in
     let b = c .before .before .before .before .before .before .before .before .before .before .before .before .before .before in
     let r = b .args .r in
-    let limit = limitFrom r (b .args .limit .0) (bandsOf (b .args .b .now)) in
+    let limit = floor (b .args .kind) (limitFrom r (b .args .limit .0) (bandsOf (b .args .b .now))) in
     let ts = tasksOf (b .args .s .now) in
-    let ss = stretchesOf (d .profile .last .1 .1 .1 .1 .1 .1 .0) in
+    let ss = stretchesOf (d .profile .last .1 .1 .1 .1 .1 .1 .1 .0) in
     let q = d .profile .ensures .1 in
     let enough : any (shortfall r limit ts) (listedDays ts) ≡ false = sym (q .short-is) ∙ c .before .if1 .left in
     let tells : (t : Task) → In t ts → Tells r limit ts t [] = λ t k. subst (λ (n : ℕ). Tells r limit ts t (take n ss)) (c .if2 .taken) (q .tells k) in
@@ -102,10 +102,10 @@ returns-3 c =
     let d = c .before .before .before .before .before .before .before .before .before .before .before in
     let b = c .before .before .before .before .before .before .before .before .before .before .before .before .before .before .before .before .before .before in
     let r = b .args .r in
-    let limit = limitFrom r (b .args .limit .0) (bandsOf (b .args .b .now)) in
+    let limit = floor (b .args .kind) (limitFrom r (b .args .limit .0) (bandsOf (b .args .b .now))) in
     let ts = tasksOf (b .args .s .now) in
     let n = d .profile .result .stretches in
-    let ss = d .profile .last .1 .1 .1 .1 .1 .1 .0 in
+    let ss = d .profile .last .1 .1 .1 .1 .1 .1 .1 .0 in
     let q = d .profile .ensures .1 in
     let enough : any (shortfall r limit ts) (listedDays ts) ≡ false = sym (q .short-is) ∙ c .before .before .before .before .before .if1 .left in
     let told : TellsAll r limit ts (stretchesOf (take n ss)) =

@@ -7,7 +7,7 @@ use Prim.Native.Nat.{ℕ, suc}
 use lib.ListN.{getD, set, length-set}
 use lib.Seq.{sets}
 use Rattle.format.specs.declared.Mark.{Mark}
-use Rattle.format.specs.declared.Mark.the-variants.{PL, RS, LB, TK}
+use Rattle.format.specs.declared.Mark.the-variants.{PL, RS, RH, LB, TK}
 use Rattle.format.specs.Format.{mark}
 use borrow.Author.Needs.{needs}
 use Rattle.writer.proofs.put_mark.Statement.{statement}
@@ -16,6 +16,7 @@ use Rattle.writer.proofs.put_mark.Tie as tie
 both : (l : List ℕ) (at : ℕ) (k : Mark) → set (set l at (getD (mark k) 0 0)) (suc at) (getD (mark k) 1 0) ≡ sets l at (mark k)
 both l at PL = refl
 both l at RS = refl
+both l at RH = refl
 both l at LB = refl
 both l at TK = refl
 

@@ -10,8 +10,8 @@ use Rattle.plan.specs.declared.Resource.{Resource}
 use Rattle.plan.specs.Tasks.{noResource}
 use Rattle.rows.specs.View.{resourcesOf}
 use Rattle.rows.proofs.View.{length-resources}
-use Rattle.format.specs.declared.Mark.the-variants.{PL, RS}
-use Rattle.format.specs.Format.{size, recordBytes, resourceNumbers}
+use Rattle.format.specs.declared.Mark.the-variants.{PL}
+use Rattle.format.specs.Format.{size, resourceMark, recordBytes, resourceNumbers}
 use Rattle.format.specs.Writing.{ResourceSmall}
 use Rattle.format.proofs.Layouts.{resources-lawful}
 use Rattle.format.proofs.Runs.{Storing, storing-starts, storing-goes-on, storing-ends}
@@ -48,7 +48,7 @@ loop-again : tie.Need-loop-again Inv-loop μ-loop
 loop-again c =
     let s = c .before .before .before .before .before .before .before .before in
     let l = c .before .before .before .before .before .before .loop in
-    let e = c .before .before .put-resource .ensures ∙ ap (λ (x : Resource). sets (l .b) (l .at) (recordBytes RS (resourceNumbers x))) (c .before .before .before .resource-at .ensures) in
+    let e = c .before .before .put-resource .ensures ∙ ap (λ (x : Resource). sets (l .b) (l .at) (recordBytes (resourceMark x) (resourceNumbers x))) (c .before .before .before .resource-at .ensures) in
     storing-goes-on (l .inv) noResource (omega (arith, length-resources (s .args .q .now))) e
 
 same-length : tie.Need-same-length Inv-loop μ-loop

@@ -1,0 +1,2 @@
+-- A held resource's days as one change.
+pub mod Held
