@@ -1,11 +1,16 @@
 -- A call on a plan file: each refusal in its turn.
 use mathlib.Core.Path.{_≡_, refl, sym, ap, _∙_}
-use mathlib.Core.Bool.{true, false, not}
+use mathlib.Core.Bool.{Bool, true, false, not}
 use mathlib.Core.List.{List}
-use Prim.Native.Nat.{ℕ}
+use Prim.Native.Nat.{ℕ, suc, _+_, _-_, _*_, _≤_, _<_}
+use native.Mathlib.Omega.{arith}
 use lib.IntN.{ℤ}
-use lib.ListN.{length, drop}
-use borrow.Author.Tests.{not-false}
+use lib.Dec.{eqb, ltb}
+use lib.ListN.{length, getD, drop}
+use lib.Seq.{drop-drop, getD-drop}
+use borrow.Author.Tests.{not-false, ltb-true, ltb-false}
+use Rattle.integers.specs.Tests.{or, any}
+use Rattle.integers.proofs.Tests.{clash, by-cases, and-off}
 use Rattle.plan.specs.declared.Call.{Call}
 use Rattle.plan.specs.declared.Checked.{Checked}
 use Rattle.plan.specs.declared.Checked.the-variants.{Accepted}
@@ -15,19 +20,23 @@ use Rattle.plan.specs.declared.Answer.{Answer}
 use Rattle.plan.specs.declared.Sense.{Sense}
 use Rattle.plan.specs.declared.Task.{Task}
 use Rattle.plan.specs.Tasks.{mostBands}
-use Rattle.rules.specs.Frame.{Frame, resourceCount}
+use Rattle.rules.specs.Frame.{Frame, resourceCount, isHeld}
 use Rattle.rules.specs.Calls.{placedIn, callOf, resultOf}
 use Rattle.rules.proofs.Checks.{past}
 use Rattle.rows.specs.View.{tasksOf, frameOf}
 use Rattle.rows.proofs.View.{length-resources}
 use Rattle.format.specs.declared.Header.{Header}
-use Rattle.format.specs.declared.Mark.the-variants.{LB}
-use Rattle.format.specs.Format.{marked, bandsFrom, fileLength}
-use Rattle.format.specs.Reading.{Read, bodyDue, readBody, readAfter}
+use Rattle.format.specs.declared.Mark.the-variants.{RS, RH}
+use Rattle.format.specs.Format.{marked, dueIn, kindFrom, size, resources, resourceFrom, bandsFrom, fileLength}
+use Rattle.format.specs.Reading.{Read, recordsIn, frameIn, tasksIn, bodyDue, readBody, readAfter}
 use Rattle.format.specs.Writing.{written, roomFor}
-use Rattle.format.proofs.Files.{rows-written}
+use Rattle.format.proofs.Files.{rows-written, read-is, after-is}
+use Rattle.plan.proofs.Sets.{eqb-in}
+use Rattle.events.specs.Events.{eventsATask}
+use Rattle.held.specs.Held.{roomIf, someHeld}
+use Rattle.held.proofs.Room.{room-most}
 use Rattle.runs.proofs.Rooms.{no-bands}
-use Rattle.calls.specs.Rows.{Unbanded, RowsAnswered, HeaderAnswered}
+use Rattle.calls.specs.Rows.{bandedIn, heldIn, Bare, RowsAnswered, HeaderAnswered}
 use Rattle.answers.specs.Files.{answerFile, afterRead, lentDue, planCall, planFile, refusedFile}
 
 -- ---- each refusal in its turn
@@ -58,15 +67,68 @@ module _ (c : Call) (f : Frame) (ts : List Task) (out : List ℕ) where
       told (Answer.Refused e) = refl
 
 -- ---- no band follows the resources
-pub unbanded-in : (h : Header) (file : List ℕ) → marked LB (drop (bandsFrom (h .resources)) file) ≡ false → Unbanded h file
-unfolding Unbanded
-unbanded-in h file m = m
-
 -- so what is read does not depend on the rows for bands
-pub unbanded-same : (h : Header) (file : List ℕ) → Unbanded h file → (room : ℕ) → readAfter room h file ≡ readAfter mostBands h file
-unfolding Unbanded readAfter readBody bodyDue
+pub unbanded-same : (h : Header) (file : List ℕ) → bandedIn (h .resources) file ≡ false → (room : ℕ) → readAfter room h file ≡ readAfter mostBands h file
+unfolding bandedIn readAfter readBody bodyDue
 unbanded-same h file m room = rw (no-bands room file (bandsFrom (h .resources)) m .0, no-bands mostBands file (bandsFrom (h .resources)) m .0)
 
 -- nor what a call answers
-pub unbanded-answered : (c : Call) (h : Header) (file out : List ℕ) {r : ℕ} {left : List ℕ} → Unbanded h file → RowsAnswered c 0 h file out r left → HeaderAnswered c h file out r left
-unbanded-answered c h file out m e = e ∙ ap (λ (x : Read). afterRead c out x) (unbanded-same h file m 0)
+pub bare-answered : (c : Call) (h : Header) (file out : List ℕ) {r : ℕ} {left : List ℕ} → Bare h file → RowsAnswered c 0 h file out r left → HeaderAnswered c h file out r left
+bare-answered c h file out m e = e ∙ ap (λ (x : Read). afterRead c out x) (unbanded-same h file (m .unbanded) 0)
+
+-- ---- the rows that were read have the file's kinds
+pub read-held : (room : ℕ) (h : Header) (file : List ℕ) {f : Frame} {ts : List Task} → readAfter room h file ≡ Read.Plan f ts → someHeld (f .resources) ≡ heldIn (h .resources) file
+unfolding heldIn readBody frameIn
+read-held room h file {f} {ts} e =
+    let d = read-is (bodyDue room h file) (Read.Plan (frameIn h file) (tasksIn h file)) (after-is room h file e .0) .1 in
+    let frame : frameIn h file ≡ f = cc d in
+    sym (ap (λ (g : Frame). someHeld (g .resources)) frame)
+
+-- rows for n tasks have room for the span of a held resource, unless the tasks fill them
+pub room-left : (n : ℕ) (h : Header) (file : List ℕ) → h .tasks ≤ n → (eqb (h .tasks) n ≡ true → heldIn (h .resources) file ≡ false)
+    → eventsATask * h .tasks + roomIf (heldIn (h .resources) file) ≤ eventsATask * n
+room-left n h file l f =
+    by-cases (eqb (h .tasks) n) (λ e. rw (f e) (omega arith))
+    (λ e. let r = room-most (heldIn (h .resources) file) in let m : h .tasks < n = below (h .tasks) n l e in omega arith)
+  where
+    below : (a b : ℕ) → a ≤ b → eqb a b ≡ false → a < b
+    below a b l e = by-cases (ltb a b) (ltb-true a b) (λ g. let m = ltb-false a b g in let same : a ≡ b = omega arith in clash (eqb a b) (eqb-in a b same) e)
+
+-- the kind of the resource at the front of the bytes is told by its mark, and by the second byte of that
+kind-told : (bs : List ℕ) → isHeld (kindFrom (dueIn RS bs)) ≡ marked RH bs
+unfolding dueIn
+kind-told bs = by-cases (marked RH bs) (λ e. rw e) (λ e. rw e)
+
+unmarked : (bs : List ℕ) → eqb (getD bs 1 0) 72 ≡ false → marked RH bs ≡ false
+unfolding marked
+unmarked bs e = simp (e, and-off)
+
+second-at : (i : ℕ) (bs : List ℕ) → getD (drop i bs) 1 0 ≡ getD bs (i + 1) 0
+second-at i bs = getD-drop i bs 1 0
+
+-- one record after another: whether one from record k on is held
+unfoldable pub heldFrom : List ℕ → ℕ → ℕ → Bool
+heldFrom file n k = someHeld (recordsIn resources (n - k) (drop (bandsFrom k) file))
+
+module _ (file : List ℕ) (n : ℕ) where
+  pub held-all : heldFrom file n 0 ≡ heldIn n file
+  unfolding heldFrom heldIn
+  held-all = let e : n - 0 ≡ n = omega arith in rw e
+
+  pub held-here : (k : ℕ) → k < n → heldFrom file n k ≡ or (marked RH (drop (bandsFrom k) file)) (heldFrom file n (k + 1))
+  unfolding heldFrom someHeld recordsIn any resourceFrom
+  held-here k l =
+      let e : n - k ≡ suc (n - (k + 1)) = omega arith in
+      let g : bandsFrom k + size RS ≡ bandsFrom (k + 1) = omega arith in
+      let f : drop (size RS) (drop (bandsFrom k) file) ≡ drop (bandsFrom (k + 1)) file = drop-drop (size RS) (bandsFrom k) file ∙ ap (λ (i : ℕ). drop i file) g in
+      rw (e, kind-told (drop (bandsFrom k) file), f)
+
+  pub held-past : (k : ℕ) → k < n → eqb (getD file (bandsFrom k + 1) 0) 72 ≡ false → heldFrom file n k ≡ heldFrom file n (k + 1)
+  held-past k l e =
+      held-here k l
+      ∙ ap (λ b. or b (heldFrom file n (k + 1)))
+      (unmarked (drop (bandsFrom k) file) (ap (λ (x : ℕ). eqb x 72) (second-at (bandsFrom k) file) ∙ e))
+
+  pub held-none : (k : ℕ) → n ≤ k → heldFrom file n k ≡ false
+  unfolding heldFrom someHeld recordsIn any
+  held-none k l = let e : n - k ≡ 0 = omega arith in rw e

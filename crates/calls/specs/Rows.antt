@@ -1,24 +1,30 @@
--- For how many tasks rows are lent: the constants SMALL, MIDDLE and WIDE; whether any are for bands; and what is promised of a call in rows.
+-- For how many tasks rows are lent: the constants SMALL, MIDDLE and WIDE; whether any are for bands and a held resource; and what is promised of a
+-- call in rows.
 use Prim.Native.Nat.{ℕ, _≤_}
 use mathlib.Core.Path.{_≡_}
-use mathlib.Core.Bool.{false}
+use mathlib.Core.Bool.{Bool, true, false}
 use mathlib.Core.List.{List}
+use lib.Dec.{eqb}
 use lib.ListN.{drop}
 use Rattle.plan.specs.declared.Call.{Call}
 use Rattle.plan.specs.Tasks.{mostResources, mostBands}
-use Rattle.format.specs.declared.Mark.the-variants.{LB}
-use Rattle.format.specs.Format.{marked, bandsFrom}
+use Rattle.held.specs.Held.{someHeld}
+use Rattle.format.specs.declared.Mark.the-variants.{PL, LB}
+use Rattle.format.specs.Format.{marked, size, resources, bandsFrom}
 use Rattle.format.specs.declared.Header.{Header}
-use Rattle.format.specs.Reading.{readAfter}
+use Rattle.format.specs.Reading.{runIn, readAfter}
 use Rattle.answers.specs.Files.{FileResult, fileResult, afterRead}
 
 -- what a header counts fits the rows of resources, and rows for so many tasks
 abbrev pub Counted : Header → ℕ → Type 0
 Counted h n = (h .resources ≤ mostResources) × (h .tasks ≤ n)
 
--- no band follows the resources
-unfoldable pub Unbanded : Header → List ℕ → Type 0
-Unbanded h file = marked LB (drop (bandsFrom (h .resources)) file) ≡ false
+-- a band follows so many resources; one of these is held
+unfoldable pub bandedIn : ℕ → List ℕ → Bool
+bandedIn n file = marked LB (drop (bandsFrom n) file)
+
+unfoldable pub heldIn : ℕ → List ℕ → Bool
+heldIn n file = someHeld (runIn resources file (size PL) n)
 
 abbrev pub small : ℕ
 small = 16
@@ -28,6 +34,16 @@ middle = 64
 
 abbrev pub wide : ℕ
 wide = 128
+
+-- a plan that fills its rows has no held resource, whose span would need room beyond that of the tasks' events
+pub record Unfull (h : Header) (file : List ℕ) : Type 0 where
+  pub at-small : eqb (h .tasks) small ≡ true → heldIn (h .resources) file ≡ false
+  pub at-middle : eqb (h .tasks) middle ≡ true → heldIn (h .resources) file ≡ false
+
+-- nor does a band follow the resources: rows for the events of its tasks are enough
+pub record Bare (h : Header) (file : List ℕ) : Type 0 where
+  pub unbanded : bandedIn (h .resources) file ≡ false
+  pub unfull : Unfull h file
 
 -- ---- what a call promises once the header was read
 -- of a file whose header was read, in rows for so many bands

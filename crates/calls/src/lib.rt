@@ -1,15 +1,16 @@
 // Calls on a plan file in memory that write, each with one number as its answer: what the functions for other languages do.
 ghost use mathlib.Core.Path.{_≡_};
-ghost use Prim.Native.Nat.{_≤_};
-ghost use lib.ListN.{length, drop};
+ghost use mathlib.Core.Bool.{false};
+ghost use Prim.Native.Nat.{_+_, _≤_};
+ghost use lib.ListN.{length};
 ghost use Rattle.plan.specs.Tasks.{mostResources, mostBands, mostTasks};
 ghost use Rattle.rows.specs.View.{tasksOf, frameOf};
 ghost use Rattle.profile.specs.Lent.{Lent};
 ghost use Rattle.passes.specs.Ready.{Ready};
-ghost use Rattle.format.specs.declared.Mark.the-variants.{LB};
-ghost use Rattle.format.specs.Format.{marked, bandsFrom, fileLength};
+ghost use Rattle.held.specs.Held.{heldEvents, roomIf};
+ghost use Rattle.format.specs.Format.{fileLength};
 ghost use Rattle.answers.specs.Files.{fileResult, lentDue, planFile, fileCall};
-ghost use Rattle.calls.specs.Rows.{Counted, small, middle, wide, RowsAnswered, HeaderAnswered};
+ghost use Rattle.calls.specs.Rows.{Counted, bandedIn, heldIn, Unfull, Bare, small, middle, wide, RowsAnswered, HeaderAnswered};
 use cursor::Cursor;
 use events::EVENTS_A_TASK;
 use format::Header;
@@ -91,7 +92,7 @@ fn apply_in_rows(
     out: &mut [u8],
 ) -> u64
     requires { ⌜ (h .resources ≤ length (now q)) × (h .tasks ≤ length (now s)) ⌝ }
-    requires { ⌜ Lent (length (now s)) (length (now b)) (length (now keys)) (length (now spare)) (length (now ss)) ⌝ }
+    requires { ⌜ Lent (h .tasks) (roomIf (heldIn (h .resources) (now file)) + length (now b)) (length (now keys)) (length (now spare)) (length (now ss)) ⌝ }
     ensures { λ r. ⌜ RowsAnswered c (length (now (b .entry))) h (now (file .entry)) (now (out .entry)) r (now (out .exit)) ⌝ }
 {
     match file::read_rest(file, h, q, b, s) {
@@ -127,11 +128,31 @@ fn apply_unbanded(
     out: &mut [u8],
 ) -> u64
     requires { ⌜ (h .resources ≤ length (now q)) × (h .tasks ≤ length (now s)) ⌝ }
-    requires { ⌜ Lent (length (now s)) 0 (length (now keys)) (length (now spare)) (length (now ss)) ⌝ }
+    requires { ⌜ Lent (h .tasks) (roomIf (heldIn (h .resources) (now file))) (length (now keys)) (length (now spare)) (length (now ss)) ⌝ }
     ensures { λ r. ⌜ RowsAnswered c 0 h (now (file .entry)) (now (out .entry)) r (now (out .exit)) ⌝ }
 {
     let mut none: [BandRow; 0] = [];
     apply_in_rows(c, file, h, q, &mut none, s, keys, spare, ss, out)
+}
+
+// The same with rows for bands and for a held resource's span.
+fn apply_banded_rows(
+    c: Call,
+    file: &[u8],
+    h: Header,
+    q: &mut [ResourceRow],
+    b: &mut [BandRow],
+    s: &mut [TaskRow],
+    keys: &mut [u64],
+    spare: &mut [u64],
+    ss: &mut [StretchRow],
+    out: &mut [u8],
+) -> u64
+    requires { ⌜ (h .resources ≤ length (now q)) × (h .tasks ≤ length (now s)) ⌝ }
+    requires { ⌜ Lent (h .tasks) (heldEvents + length (now b)) (length (now keys)) (length (now spare)) (length (now ss)) ⌝ }
+    ensures { λ r. ⌜ RowsAnswered c (length (now (b .entry))) h (now (file .entry)) (now (out .entry)) r (now (out .exit)) ⌝ }
+{
+    apply_in_rows(c, file, h, q, b, s, keys, spare, ss, out)
 }
 
 // ---- rows as the header asks: clearing rows that a small plan never uses would be most of its time, and so would be rows for bands in a
@@ -139,7 +160,7 @@ fn apply_unbanded(
 
 pub const SMALL: usize = 16;
 
-pub const SMALL_KEYS: usize = SMALL * EVENTS_A_TASK + HELD_EVENTS;
+pub const SMALL_KEYS: usize = SMALL * EVENTS_A_TASK;
 
 pub const SMALL_SPARE: usize = SMALL_KEYS / 2;
 
@@ -147,6 +168,7 @@ pub const SMALL_STRETCHES: usize = SMALL_KEYS + 1;
 
 fn apply_small(c: Call, file: &[u8], h: Header, out: &mut [u8]) -> u64
     requires { ⌜ Counted h small ⌝ }
+    requires { ⌜ Unfull h (now file) ⌝ }
     ensures { λ r. ⌜ RowsAnswered c 0 h (now (file .entry)) (now (out .entry)) r (now (out .exit)) ⌝ }
 {
     let resource = [0i64; RESOURCE_CELLS];
@@ -172,7 +194,7 @@ fn apply_small(c: Call, file: &[u8], h: Header, out: &mut [u8]) -> u64
 
 pub const MIDDLE: usize = 64;
 
-pub const MIDDLE_KEYS: usize = MIDDLE * EVENTS_A_TASK + HELD_EVENTS;
+pub const MIDDLE_KEYS: usize = MIDDLE * EVENTS_A_TASK;
 
 pub const MIDDLE_SPARE: usize = MIDDLE_KEYS / 2;
 
@@ -180,6 +202,7 @@ pub const MIDDLE_STRETCHES: usize = MIDDLE_KEYS + 1;
 
 fn apply_middle(c: Call, file: &[u8], h: Header, out: &mut [u8]) -> u64
     requires { ⌜ Counted h middle ⌝ }
+    requires { ⌜ Unfull h (now file) ⌝ }
     ensures { λ r. ⌜ RowsAnswered c 0 h (now (file .entry)) (now (out .entry)) r (now (out .exit)) ⌝ }
 {
     let resource = [0i64; RESOURCE_CELLS];
@@ -267,8 +290,8 @@ fn apply_large(c: Call, file: &[u8], h: Header, out: &mut [u8]) -> u64
     )
 }
 
-// The same with rows for bands.
-pub const BANDED_SMALL_KEYS: usize = SMALL_KEYS + MOST_BANDS;
+// The same with rows for bands and for a held resource's span.
+pub const BANDED_SMALL_KEYS: usize = SMALL_KEYS + HELD_EVENTS + MOST_BANDS;
 
 pub const BANDED_SMALL_SPARE: usize = BANDED_SMALL_KEYS / 2;
 
@@ -288,7 +311,7 @@ fn apply_banded_small(c: Call, file: &[u8], h: Header, out: &mut [u8]) -> u64
     let mut keys = [0u64; BANDED_SMALL_KEYS];
     let mut spare = [0u64; BANDED_SMALL_SPARE];
     let mut stretches = [stretch; BANDED_SMALL_STRETCHES];
-    apply_in_rows(
+    apply_banded_rows(
         c,
         file,
         h,
@@ -302,7 +325,7 @@ fn apply_banded_small(c: Call, file: &[u8], h: Header, out: &mut [u8]) -> u64
     )
 }
 
-pub const BANDED_MIDDLE_KEYS: usize = MIDDLE_KEYS + MOST_BANDS;
+pub const BANDED_MIDDLE_KEYS: usize = MIDDLE_KEYS + HELD_EVENTS + MOST_BANDS;
 
 pub const BANDED_MIDDLE_SPARE: usize = BANDED_MIDDLE_KEYS / 2;
 
@@ -322,7 +345,7 @@ fn apply_banded_middle(c: Call, file: &[u8], h: Header, out: &mut [u8]) -> u64
     let mut keys = [0u64; BANDED_MIDDLE_KEYS];
     let mut spare = [0u64; BANDED_MIDDLE_SPARE];
     let mut stretches = [stretch; BANDED_MIDDLE_STRETCHES];
-    apply_in_rows(
+    apply_banded_rows(
         c,
         file,
         h,
@@ -350,7 +373,7 @@ fn apply_banded_large(c: Call, file: &[u8], h: Header, out: &mut [u8]) -> u64
     let mut keys = [0u64; MOST_KEYS];
     let mut spare = [0u64; MOST_SPARE];
     let mut stretches = [stretch; MOST_STRETCHES];
-    apply_in_rows(
+    apply_banded_rows(
         c,
         file,
         h,
@@ -381,12 +404,48 @@ fn apply_banded(c: Call, least: usize, file: &[u8], h: Header, out: &mut [u8]) -
 // Whether a band follows so many resources.
 fn has_bands(file: &[u8], resources: usize) -> bool
     requires { ⌜ resources ≤ mostResources ⌝ }
-    ensures { λ r. ⌜ r ≡ marked LB (drop (bandsFrom resources) (now (file .entry))) ⌝ }
+    ensures { λ r. ⌜ r ≡ bandedIn resources (now (file .entry)) ⌝ }
 {
     let first = Cursor {
         at: table::bands_from(resources),
     };
     first.stands_before(Mark::LB, file)
+}
+
+// Whether the record of one of so many resources has the second mark byte of RH; no where none is held. Of a file that ends before them it says yes.
+fn has_held(file: &[u8], resources: usize) -> bool
+    requires { ⌜ resources ≤ mostResources ⌝ }
+    ensures { λ r. ⌜ (r ≡ false → heldIn resources (now (file .entry)) ≡ false) ⌝ }
+{
+    if file.len() < table::bands_from(resources) {
+        return true;
+    }
+    let mut k: usize = 0;
+    while k < resources {
+        let second = table::bands_from(k) + 1;
+        if file[second] == b'H' {
+            return true;
+        }
+        k += 1;
+    }
+    false
+}
+
+// Whether rows for the events of the tasks may not be enough: for bands, or, where the tasks fill them, for a held resource's span.
+fn asks_more(file: &[u8], h: Header) -> bool
+    requires { ⌜ h .resources ≤ mostResources ⌝ }
+    ensures { λ r. ⌜ (r ≡ false → Bare h (now (file .entry))) ⌝ }
+{
+    if has_bands(file, h.resources) {
+        return true;
+    }
+    if h.tasks == SMALL {
+        return has_held(file, h.resources);
+    }
+    if h.tasks == MIDDLE {
+        return has_held(file, h.resources);
+    }
+    false
 }
 
 // Larger rows, for at least as many tasks as the header counts, or rows with bands. It is called from two places, each with a number that the
@@ -396,7 +455,7 @@ fn apply_more(c: Call, least: usize, file: &[u8], h: Header, out: &mut [u8]) -> 
     requires { ⌜ Counted h mostTasks × (h .tasks ≤ least) ⌝ }
     ensures { λ r. ⌜ HeaderAnswered c h (now (file .entry)) (now (out .entry)) r (now (out .exit)) ⌝ }
 {
-    if has_bands(file, h.resources) {
+    if asks_more(file, h) {
         return apply_banded(c, least, file, h, out);
     }
     if least <= WIDE {
@@ -405,9 +464,10 @@ fn apply_more(c: Call, least: usize, file: &[u8], h: Header, out: &mut [u8]) -> 
     apply_large(c, file, h, out)
 }
 
-// Rows for few tasks, where no band follows the resources.
+// Rows for few tasks, where no band follows the resources; with room for a held resource's span where there is one.
 fn apply_few(c: Call, file: &[u8], h: Header, out: &mut [u8]) -> u64
     requires { ⌜ Counted h middle ⌝ }
+    requires { ⌜ Unfull h (now file) ⌝ }
     ensures { λ r. ⌜ RowsAnswered c 0 h (now (file .entry)) (now (out .entry)) r (now (out .exit)) ⌝ }
 {
     if h.tasks <= SMALL {
@@ -421,7 +481,7 @@ fn apply_counted(c: Call, file: &[u8], h: Header, out: &mut [u8]) -> u64
     ensures { λ r. ⌜ HeaderAnswered c h (now (file .entry)) (now (out .entry)) r (now (out .exit)) ⌝ }
 {
     if h.tasks <= MIDDLE {
-        if !has_bands(file, h.resources) {
+        if !asks_more(file, h) {
             return apply_few(c, file, h, out);
         }
     }

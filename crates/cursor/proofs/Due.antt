@@ -12,6 +12,7 @@ use mir.Val.{hasKey}
 use borrow.Author.Tests.{eqb-true, le-ltb, ltb-true, ltb-false}
 use types.Run.{OneOf, miss}
 use denote.Enum.Declared
+use Rattle.format.proofs.Mark as Mark'
 use Rattle.cursor.proofs.Record as Record'
 use Rattle.integers.specs.Tests.{if}
 use Rattle.integers.proofs.Tests.{clash, by-cases, and-first, and-second, and-off}
@@ -27,7 +28,7 @@ use Rattle.rules.specs.Calls.{refuseIf}
 use Rattle.format.specs.declared.Mark.{Mark}
 use Rattle.format.specs.declared.Mark.the-variants.{PL, RS, RH, LB, TK}
 use Rattle.format.specs.declared.Header.{Header}
-use Rattle.format.specs.Format.{mark, markSize, marked, inPlaceOf, dueIn, kindMark, resourceMark, size, numbersIn, headerFrom, resourceFrom, bandFrom, taskFrom}
+use Rattle.format.specs.Format.{mark, markSize, marked, inPlaceOf, dueIn, kindMark, kindFrom, resourceMark, size, numbersIn, headerFrom, resourceFrom, bandFrom, taskFrom}
 use Rattle.format.specs.Reading.{due}
 use Rattle.format.proofs.Records.{due-is, due-alone}
 use Rattle.cursor.specs.declared.Cursor.{Cursor}
@@ -126,11 +127,26 @@ mark-told k bs =
 whole-record : (k : Mark) (at : ℕ) (bs : List ℕ) → size k ≤ length bs → recordOf k at bs ≡ recordIn k at bs
 whole-record k at bs h = rw (le-ltb (length bs) (size k) h)
 
--- a resource's record, of either kind
-pub resource-told : (x : Kind) (at : ℕ) (bs : List ℕ) → recordOf (kindMark x) at bs ≡ if (ltb (length bs) (size RS)) (Record.CutShort (kindMark x)) (Record.Resource (resourceFrom (kindMark x) (numbersIn RS bs)) (cursor (at + size RS)))
+-- a resource's record, under the mark of either kind
+abbrev ResourceTold : ℕ → List ℕ → Mark → Type 0
+ResourceTold at bs k =
+    recordOf k at bs ≡ if (ltb (length bs) (size RS)) (Record.CutShort k) (Record.Resource (resourceFrom k (numbersIn RS bs)) (cursor (at + size RS)))
+
+kind-told : (x : Kind) (at : ℕ) (bs : List ℕ) → ResourceTold at bs (kindMark x)
 unfolding numbersIn
-resource-told Plain at bs = refl
-resource-told Held at bs = refl
+kind-told Plain at bs = refl
+kind-told Held at bs = refl
+
+pub resource-told : (k : Mark) → kindMark (kindFrom k) ≡ k → (at : ℕ) (bs : List ℕ) → ResourceTold at bs k
+resource-told k e at bs = subst (ResourceTold at bs) e (kind-told (kindFrom k) at bs)
+
+-- every mark but these three is that of a kind
+pub kind-known : (k : Mark) (ks : List ℕ) → T (not (hasKey ks 0)) → T (not (hasKey ks 3)) → T (not (hasKey ks 4)) → OneOf ks (Declared.tagOf Mark'.the-type k) → kindMark (kindFrom k) ≡ k
+kind-known PL ks a b c o = absurd (miss ks 0 a o)
+kind-known RS ks a b c o = refl
+kind-known RH ks a b c o = refl
+kind-known LB ks a b c o = absurd (miss ks 3 b o)
+kind-known TK ks a b c o = absurd (miss ks 4 c o)
 
 -- ---- "each caller takes the record it is due and turns every other answer into the refusal"
 -- a whole record under such a mark

@@ -7,7 +7,7 @@ ghost use lib.Dec.{ltb};
 ghost use lib.ListN.{length, drop};
 ghost use Rattle.integers.specs.Tests.{if};
 ghost use Rattle.format.specs.declared.Mark.the-variants.{PL, RS, LB, TK};
-ghost use Rattle.format.specs.Format.{markSize, marked, kindMark, size, numbersIn, headerFrom, resourceFrom, bandFrom, taskFrom};
+ghost use Rattle.format.specs.Format.{markSize, marked, kindMark, kindFrom, size, numbersIn, headerFrom, resourceFrom, bandFrom, taskFrom};
 ghost use Rattle.cursor.specs.Handed.{recordOf, standing, handed, recordAt, pastAt, sameMark, standsFor, notDue};
 use format::Header;
 use format::Mark;
@@ -22,7 +22,6 @@ use format::table::first_byte;
 use format::table::second_byte;
 use plan::Band;
 use plan::Day;
-use plan::Kind;
 use plan::Power;
 use plan::Refusal;
 use plan::Resource;
@@ -57,14 +56,14 @@ fn header_of(b: &[u8]) -> Header
     }
 }
 
-fn resource_of(kind: Kind, b: &[u8]) -> Resource
+fn resource_of(k: Mark, b: &[u8]) -> Resource
     requires { ⌜ size RS ≤ length (now b) ⌝ }
-    ensures { λ r. ⌜ r ≡ resourceFrom (kindMark kind) (numbersIn RS (now (b .entry))) ⌝ }
+    ensures { λ r. ⌜ r ≡ resourceFrom k (numbersIn RS (now (b .entry))) ⌝ }
 {
     Resource {
         id: id_at(b, table::IDENTIFIER),
         limit: Power(cell_at(b, table::LIMIT)),
-        kind: kind,
+        kind: table::kind_from(k),
     }
 }
 
@@ -120,17 +119,17 @@ fn plan_record(at: usize, b: &[u8]) -> Record
     Record::Plan(header_of(b), past)
 }
 
-fn resource_record(kind: Kind, at: usize, b: &[u8]) -> Record
-    requires { ⌜ at + length (now b) < 2 ^ 64 ⌝ }
-    ensures { λ r. ⌜ r ≡ recordOf (kindMark kind) at (now (b .entry)) ⌝ }
+fn resource_record(k: Mark, at: usize, b: &[u8]) -> Record
+    requires { ⌜ (at + length (now b) < 2 ^ 64) × (kindMark (kindFrom k) ≡ k) ⌝ }
+    ensures { λ r. ⌜ r ≡ recordOf k at (now (b .entry)) ⌝ }
 {
     if b.len() < table::RS_SIZE {
-        return Record::CutShort(table::kind_mark(kind));
+        return Record::CutShort(k);
     }
     let past = Cursor {
         at: at + table::RS_SIZE,
     };
-    Record::Resource(resource_of(kind, b), past)
+    Record::Resource(resource_of(k, b), past)
 }
 
 fn band_record(at: usize, b: &[u8]) -> Record
@@ -165,10 +164,9 @@ fn record_of(k: Mark, at: usize, b: &[u8]) -> Record
 {
     match k {
         Mark::PL => plan_record(at, b),
-        Mark::RS => resource_record(Kind::Plain, at, b),
-        Mark::RH => resource_record(Kind::Held, at, b),
         Mark::LB => band_record(at, b),
         Mark::TK => task_record(at, b),
+        _ => resource_record(k, at, b),
     }
 }
 

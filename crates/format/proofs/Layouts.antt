@@ -3,13 +3,12 @@
 use mathlib.Core.Path.{_≡_, refl, sym}
 use mathlib.Core.Bool.{true}
 use mathlib.Core.List.{List, [], _∷_, _++_}
-use Prim.Native.Nat.{ℕ, suc, _≤_, _<_, _^_}
+use Prim.Native.Nat.{ℕ, suc, _%_, _≤_, _<_, _^_}
 use native.Mathlib.Omega.{arith}
 use native.Mathlib.Nat.{pow-le-pow-right}
-use lib.IntN.{ℤ, pos, negsuc}
-use lib.Signed.{ltZ}
+use lib.IntN.{ℤ}
 use lib.ListN.{length, getD}
-use mir.Syntax.{w32}
+use mir.Syntax.{w32, w64}
 use mir.Val.{SFits, toZ, ofZ}
 use mir.Facts.{fits-ofZ, toZ-ofZ, ofZ-toZ, sfits-toZ}
 use Rattle.integers.specs.Ends.{Within}
@@ -30,7 +29,7 @@ use Rattle.rules.specs.Frame.{Frame, resourceCount}
 use Rattle.rules.specs.Calls.{bandFits, check}
 use Rattle.rules.proofs.Checks.{accepts}
 use Rattle.rules.proofs.Bands.{fits-ends, fits-place, ends-in}
-use Rattle.rows.specs.View.{idHigh, idOf, resourceOf, resourcesOf}
+use Rattle.rows.specs.View.{idOf, resourceOf, resourcesOf}
 use Rattle.format.specs.declared.Mark.{Mark}
 use Rattle.format.specs.declared.Mark.the-variants.{RS, RH, LB, TK}
 use Rattle.format.specs.Format.{resources, bands, tasks, marked, dueIn, kindMark, kindFrom, widths, recordBytes, resourceNumbers, resourceFrom, bandNumbers, bandFrom, taskNumbers, taskFrom}
@@ -54,7 +53,7 @@ unfolding dueIn marked recordBytes
 kind-stands Kind.Plain ns rest = refl
 kind-stands Kind.Held ns rest = refl
 
-pub kind-back : (x : Kind) → kindFrom (kindMark x) ≡ x
+kind-back : (x : Kind) → kindFrom (kindMark x) ≡ x
 kind-back Kind.Plain = refl
 kind-back Kind.Held = refl
 
@@ -84,9 +83,7 @@ resource-identified k _ (more a r) = sfits-toZ (record { fits = a })
 -- every row's identifier is one of 32 bits
 id-small : (x : ℤ) → SFits w32 (idOf x)
 unfolding idOf
-id-small x =
-    by-cases (ltZ x (negsuc idHigh)) (λ e. rw e (omega z))
-    (λ e. by-cases (ltZ (pos idHigh) x) (λ f. rw (e, f) (omega z)) (λ f. rw (e, f) (omega z)))
+id-small x = let h : ofZ w64 x % 2 ^ 32 < 2 ^ 32 = omega arith in sfits-toZ (record { fits = h })
 
 pub rows-identified : (q : List (List ℤ)) → Each Identified (resourcesOf q)
 unfolding resourcesOf resourceOf

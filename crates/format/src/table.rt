@@ -2,7 +2,7 @@
 ghost use mathlib.Core.Path.{_≡_};
 ghost use Prim.Native.Nat.{_<_, _^_};
 ghost use lib.ListN.{getD};
-ghost use Rattle.format.specs.Format.{mark, kindMark, inPlaceOf, senseNumber, senseFrom, bandsFrom, tasksFrom, fileLength, longestFile};
+ghost use Rattle.format.specs.Format.{mark, kindMark, kindFrom, inPlaceOf, senseNumber, senseFrom, bandsFrom, tasksFrom, fileLength, longestFile};
 use crate::Mark;
 use plan::Kind;
 use plan::MOST_BANDS;
@@ -82,13 +82,26 @@ pub fn second_byte(k: Mark) -> u8
     }
 }
 
-// "In a file a held resource has mark RH in place of RS": the mark of a resource of such a kind, and the mark that may stand where one is due.
+// "In a file a held resource has mark RH in place of RS": the mark of a resource of such a kind, the kind that a mark tells, and the mark that
+// may stand where one is due.
 pub fn kind_mark(kind: Kind) -> Mark
     ensures { λ r. ⌜ r ≡ kindMark kind ⌝ }
 {
     match kind {
         Kind::Plain => Mark::RS,
         Kind::Held => Mark::RH,
+    }
+}
+
+pub fn kind_from(k: Mark) -> Kind
+    ensures { λ r. ⌜ r ≡ kindFrom k ⌝ }
+{
+    match k {
+        Mark::PL => Kind::Plain,
+        Mark::RS => Kind::Plain,
+        Mark::RH => Kind::Held,
+        Mark::LB => Kind::Plain,
+        Mark::TK => Kind::Plain,
     }
 }
 

@@ -1,12 +1,14 @@
 -- The days that count on a held resource are one span over the tasks that have only it: from the least origin high to one before the greatest
 -- end low. As events it is one change of the count.
+use mathlib.Core.Bool.{Bool}
 use mathlib.Core.List.{List, [], _∷_}
 use Prim.Native.Nat.{ℕ}
 use lib.IntN.{pos}
 use lib.Signed.{ltZ}
 use Rattle.integers.specs.Whole.{larger, smaller}
-use Rattle.integers.specs.Tests.{if}
+use Rattle.integers.specs.Tests.{if, any}
 use Rattle.plan.specs.declared.Kind.{Kind}
+use Rattle.plan.specs.declared.Resource.{Resource}
 use Rattle.plan.specs.declared.Span.{Span}
 use Rattle.plan.specs.declared.Task.{Task}
 use Rattle.plan.specs.Days.{day, dayLow, dayHigh}
@@ -34,9 +36,15 @@ spanOver r e (t ∷ ts) = spanOver r (withOnly r e t) ts
 abbrev pub spanChange : Span → Change
 spanChange e = change (e .low .0) (e .high .0) (pos 0) (pos 1)
 
--- its two keys, where it has a day
+-- its two keys, where it has a day: room for them is lent where a resource is held, and nowhere else
 abbrev pub heldEvents : ℕ
 heldEvents = 2
+
+abbrev pub roomIf : Bool → ℕ
+roomIf held = if held heldEvents 0
+
+unfoldable pub someHeld : List Resource → Bool
+someHeld qs = any (λ q. isHeld (q .kind)) qs
 
 unfoldable pub spanKeys : Span → List ℕ
 spanKeys e = if (ltZ (e .low .0) (e .high .0)) (changeKeys (spanChange e)) []

@@ -6,10 +6,11 @@ ghost use lib.ListN.{length};
 ghost use Rattle.integers.specs.Lists.{Each};
 ghost use Rattle.plan.specs.Sets.{setBits};
 ghost use Rattle.plan.specs.Tasks.{Bounded};
+ghost use Rattle.rules.specs.Frame.{isHeld};
 ghost use Rattle.rows.specs.View.{tasksOf};
 ghost use Rattle.events.specs.Events.{ChangeFits};
 ghost use Rattle.events.specs.Laid.{Laid};
-ghost use Rattle.held.specs.Held.{noSpan, withOnly, spanOver, spanChange, spanKeys, heldEvents, heldKeys};
+ghost use Rattle.held.specs.Held.{noSpan, withOnly, spanOver, spanChange, spanKeys, heldEvents, roomIf, heldKeys};
 use events::Change;
 use events::Count;
 use plan::Day;
@@ -85,10 +86,10 @@ fn put_span(keys: &mut [u64], n: usize, e: Span) -> usize
 
 // The keys of a held resource's span behind the first n; a plain one has none.
 pub fn put_held(s: &[TaskRow], r: u64, kind: Kind, keys: &mut [u64], n: usize) -> usize
-    requires { ⌜ (r < setBits) × (n + heldEvents ≤ length (now keys)) ⌝ }
+    requires { ⌜ (r < setBits) × (n + roomIf (isHeld kind) ≤ length (now keys)) ⌝ }
     requires { ⌜ Each Bounded (tasksOf (now s)) ⌝ }
     ensures { λ m. ⌜ Laid (now (keys .entry)) (now (keys .exit)) n m (heldKeys r kind (tasksOf (now (s .entry)))) ⌝ }
-    ensures { λ m. ⌜ m ≤ n + heldEvents ⌝ }
+    ensures { λ m. ⌜ m ≤ n + roomIf (isHeld kind) ⌝ }
 {
     match kind {
         Kind::Plain => n,

@@ -146,14 +146,6 @@ leZ-true a b e = le-o a b (T-true (leZ a b) e)
 pub leZ-false : (a b : ℤ) → leZ a b ≡ false → up b + dn a < up a + dn b
 leZ-false a b e = nle-o a b (T-false (leZ a b) e)
 
-pub sfits-up : (w : Width) (z : ℤ) → SFits w z → up z < 2 ^ hbits w + dn z
-sfits-up w (pos n) f = omega (arith, f .sfits)
-sfits-up w (negsuc n) f = omega arith
-
-pub sfits-dn : (w : Width) (z : ℤ) → SFits w z → dn z ≤ 2 ^ hbits w + up z
-sfits-dn w (pos n) f = omega arith
-sfits-dn w (negsuc n) f = omega (arith, f .sfits)
-
 pub sfits-in : (w : Width) (z : ℤ) → max (up z + up z + 1) (dn z + dn z) ≤ 2 ^ hbits w + up z + dn z → SFits w z
 sfits-in w (pos n) h = record { sfits = omega arith }
 sfits-in w (negsuc n) h = record { sfits = omega arith }

@@ -2,7 +2,7 @@
 use mathlib.Core.Path.{_≡_}
 use mathlib.Core.Bool.{Bool}
 use mathlib.Core.List.{List}
-use Prim.Native.Nat.{ℕ}
+use Prim.Native.Nat.{ℕ, _+_}
 use lib.IntN.{ℤ}
 use lib.ListN.{length}
 use Rattle.plan.specs.declared.Answer.{Answer}
@@ -12,7 +12,8 @@ use Rattle.plan.specs.declared.Task.{Task}
 use Rattle.rules.specs.Frame.{Frame}
 use Rattle.rules.specs.Balance.{Outcome}
 use Rattle.rules.specs.Calls.{check, callOf, resultOf}
-use Rattle.rows.specs.View.{tasksOf, atLeast}
+use Rattle.rows.specs.View.{tasksOf, resourcesOf, atLeast}
+use Rattle.held.specs.Held.{roomIf, someHeld}
 use Rattle.idle.specs.declared.Passed.{Passed}
 use Rattle.idle.specs.Mask.{Took}
 use Rattle.profile.specs.Lent.{Lent}
@@ -20,7 +21,7 @@ use Rattle.profile.specs.Lent.{Lent}
 -- the rows hold a plan that passed the checks, and enough is lent to work in
 pub record Ready (q b s : List (List ℤ)) (keys spare : List ℕ) (ss : List (List ℤ)) : Type 0 where
   pub accepted : check (atLeast q b) (tasksOf s) ≡ Accepted
-  pub lent : Lent (length s) (length b) (length keys) (length spare) (length ss)
+  pub lent : Lent (length s) (roomIf (someHeld (resourcesOf q)) + length b) (length keys) (length spare) (length ss)
 
 -- steps that were taken on rows of tasks s, at least, and left s'
 abbrev pub TookRows : (Frame → List Task → Outcome) → List (List ℤ) → List (List ℤ) → Bool → List (List ℤ) → Passed → List (List ℤ) → Type 0

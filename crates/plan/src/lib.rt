@@ -315,8 +315,8 @@ pub enum Kind {
 // "Each has an identifier (any signed 32-bit number, each different) and a limit"; and a kind.
 pub struct Resource {
     pub id: i32,
-    pub limit: Power,
     pub kind: Kind,
+    pub limit: Power,
 }
 
 // "resource place (2 bytes), first day (4), limit (4)": from that day on the resource at that place has this limit.

@@ -14,7 +14,7 @@ use Rattle.integers.proofs.Z.{z, +z}
 use Rattle.integers.proofs.Tests.{if-case}
 use Rattle.integers.proofs.Sums.{Near}
 use Rattle.plan.specs.Powers.{powerEnds, powerHigh}
-use Rattle.plan.specs.Tasks.{mostBands, mostTasks}
+use Rattle.plan.specs.Tasks.{mostTasks}
 use Rattle.stretches.specs.declared.Stretch.{Stretch}
 use Rattle.events.specs.declared.Extremes.{Extremes}
 use Rattle.events.specs.Keys.{powerField, countField, dayOf, powerOf, sureOf}
@@ -22,7 +22,7 @@ use Rattle.events.specs.Laid.{Laid}
 use Rattle.events.proofs.Keys.{power-near, sure-near}
 use Rattle.events.proofs.Laid.{laid-more}
 use Rattle.profile.specs.declared.Level.{Level}
-use Rattle.profile.specs.Lent.{mostEvents}
+use Rattle.profile.specs.Lent.{mostEvents, mostMore}
 use Rattle.profile.specs.Sweep.{changed, stretchIn, worth, worthy, swept}
 
 pub worthy-few : (e : Extremes) (t : Stretch) → length (worthy e t) ≤ 1
@@ -53,7 +53,7 @@ pub small-start : (v : Level) → Within powerEnds (v .slack .0) → v .sure .0 
 small-start v w e = omega z
 
 module _ (j : ℕ) (v : Level) (k : ℕ) (s : Small j v) where
-  pub small-fits : j < mostEvents mostTasks mostBands → SFits w64 (v .slack .0 +ℤ powerOf k) × SFits w64 (v .sure .0 +ℤ sureOf k)
+  pub small-fits : j < mostEvents mostTasks mostMore → SFits w64 (v .slack .0 +ℤ powerOf k) × SFits w64 (v .sure .0 +ℤ sureOf k)
   small-fits h = omega (z, power-near k, sure-near k, s .slack, s .sure, +z (v .slack .0) (powerOf k), +z (v .sure .0) (sureOf k))
 
   pub small-more : Small (j + 1) (changed v k)

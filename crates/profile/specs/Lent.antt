@@ -20,12 +20,16 @@ pub record Asks (r : ℕ) (limit : Power) (bs : List Band) (tasks : ℕ) : Type 
   pub few-bands : length bs ≤ mostBands
   pub few : tasks ≤ mostTasks
 
--- the events that so many tasks and bands give at the most, and those of a held resource's span
+-- the events that so many tasks give at the most, and so many more: one for each band, and those of a held resource's span
 abbrev pub mostEvents : ℕ → ℕ → ℕ
-mostEvents tasks bands = eventsATask * tasks + heldEvents + bands
+mostEvents tasks more = eventsATask * tasks + more
+
+-- in the largest plan
+abbrev pub mostMore : ℕ
+mostMore = heldEvents + mostBands
 
 -- keys for every event, half as many for the sort, and a stretch up to each event and one behind the last
-pub record Lent (tasks bands keys spare stretches : ℕ) : Type 0 where
-  pub keys-long : mostEvents tasks bands ≤ keys
-  pub spare-long : mostEvents tasks bands ≤ 2 * spare
-  pub stretches-long : mostEvents tasks bands < stretches
+pub record Lent (tasks more keys spare stretches : ℕ) : Type 0 where
+  pub keys-long : mostEvents tasks more ≤ keys
+  pub spare-long : mostEvents tasks more ≤ 2 * spare
+  pub stretches-long : mostEvents tasks more < stretches

@@ -13,16 +13,16 @@ ghost use Rattle.integers.specs.Ends.{Within};
 ghost use Rattle.integers.specs.Lists.{Each};
 ghost use Rattle.plan.specs.Powers.{power, powerEnds};
 ghost use Rattle.plan.specs.Sets.{setBits};
-ghost use Rattle.plan.specs.Tasks.{mostBands, mostTasks, Bounded};
-ghost use Rattle.rules.specs.Frame.{limitFrom, floor};
+ghost use Rattle.plan.specs.Tasks.{mostTasks, Bounded};
+ghost use Rattle.rules.specs.Frame.{limitFrom, isHeld, floor};
 ghost use Rattle.rules.specs.Rises.{Banded};
 ghost use Rattle.rows.specs.View.{tasksOf, bandsOf};
 ghost use Rattle.stretches.specs.View.{stretchesOf};
 ghost use Rattle.events.specs.Keys.{powerOf, sureOf};
 ghost use Rattle.events.specs.Laid.{Laid};
 ghost use Rattle.levels.specs.Levels.{bandKeys};
-ghost use Rattle.held.specs.Held.{heldEvents, heldKeys};
-ghost use Rattle.profile.specs.Lent.{mostEvents, Lent, Asks};
+ghost use Rattle.held.specs.Held.{roomIf, heldKeys};
+ghost use Rattle.profile.specs.Lent.{mostEvents, mostMore, Lent, Asks};
 ghost use Rattle.profile.specs.Promise.{FirstShort, Profile};
 ghost use Rattle.profile.specs.Sweep.{changed, tightIn, stretchIn, worth, worthy, sweptFrom, Sweeps};
 use events::Count;
@@ -115,7 +115,7 @@ fn put_worthy(s: &mut [StretchRow], n: usize, t: Stretch, e: Extremes) -> usize
 
 // the stretches that rising keys make, each with a start on which the sums have been added up
 fn sweep(keys: &[u64], start: Power, e: Extremes, s: &mut [StretchRow]) -> usize
-    requires { ⌜ (length (now keys) ≤ mostEvents mostTasks mostBands) × (length (now keys) < length (now s)) ⌝ }
+    requires { ⌜ (length (now keys) ≤ mostEvents mostTasks mostMore) × (length (now keys) < length (now s)) ⌝ }
     requires { ⌜ Within powerEnds (start .0) ⌝ }
     ensures { λ r. ⌜ Laid (stretchesOf (now (s .entry))) (stretchesOf (now (s .exit))) 0 r (sweptFrom e (start .0) (now (keys .entry))) ⌝ }
     ensures { λ r. ⌜ r ≤ length (now (s .exit)) ⌝ }
@@ -149,7 +149,7 @@ fn sweep_events(
     e: Extremes,
     s: &mut [StretchRow],
 ) -> usize
-    requires { ⌜ (n ≤ length (now keys)) × (n ≤ mostEvents mostTasks mostBands) × (n ≤ 2 * length (now spare)) × (n < length (now s)) ⌝ }
+    requires { ⌜ (n ≤ length (now keys)) × (n ≤ mostEvents mostTasks mostMore) × (n ≤ 2 * length (now spare)) × (n < length (now s)) ⌝ }
     requires { ⌜ Within powerEnds (start .0) ⌝ }
     ensures { λ r. ⌜ Sweeps e (start .0) (take n (now (keys .entry))) (stretchesOf (now (s .exit))) r ⌝ }
 {
@@ -216,11 +216,11 @@ fn put_floor(
     keys: &mut [u64],
     n: usize,
 ) -> Levels
-    requires { ⌜ (r < setBits) × (n + heldEvents + length (now b) ≤ length (now keys)) × Banded r (bandsOf (now b)) × Within powerEnds (limit .0) ⌝ }
+    requires { ⌜ (r < setBits) × (n + roomIf (isHeld kind) + length (now b) ≤ length (now keys)) × Banded r (bandsOf (now b)) × Within powerEnds (limit .0) ⌝ }
     requires { ⌜ Each Bounded (tasksOf (now s)) ⌝ }
     ensures { λ l. ⌜ Laid (now (keys .entry)) (now (keys .exit)) n (l .events) (heldKeys r kind (tasksOf (now (s .entry))) ++ bandKeys r (e .low .0) (e .high .0) (limit .0) (bandsOf (now (b .entry)))) ⌝ }
     ensures { λ l. ⌜ l .start ≡ power (limitFrom r (limit .0) (bandsOf (now (b .entry))) (e .low .0)) ⌝ }
-    ensures { λ l. ⌜ (l .events ≤ n + heldEvents + length (now (b .entry))) × Within powerEnds (l .start .0) ⌝ }
+    ensures { λ l. ⌜ (l .events ≤ n + roomIf (isHeld kind) + length (now (b .entry))) × Within powerEnds (l .start .0) ⌝ }
 {
     let m = held::put_held(s, r, kind, keys, n);
     put_levels(b, r, limit, e, keys, m)
@@ -238,7 +238,7 @@ pub fn profile(
     ss: &mut [StretchRow],
 ) -> Profiled
     requires { ⌜ Asks r limit (bandsOf (now b)) (length (now s)) ⌝ }
-    requires { ⌜ Lent (length (now s)) (length (now b)) (length (now keys)) (length (now spare)) (length (now ss)) ⌝ }
+    requires { ⌜ Lent (length (now s)) (roomIf (isHeld kind) + length (now b)) (length (now keys)) (length (now spare)) (length (now ss)) ⌝ }
     requires { ⌜ Each Bounded (tasksOf (now s)) ⌝ }
     ensures { λ q. ⌜ q .stretches ≤ length (now (ss .exit)) ⌝ }
     ensures { λ q. ⌜ Profile r (floor kind (limitFrom r (limit .0) (bandsOf (now (b .entry))))) (tasksOf (now (s .entry))) (take (q .stretches) (stretchesOf (now (ss .exit)))) (q .short) ⌝ }

@@ -25,9 +25,12 @@ fn tasks() -> [TaskRow; 2] {
     [[1, 1, 2, 2, 2, 3, 4, 0, 1], [3, 0, 6, 2, 2, 2, 8, 0, 4]]
 }
 
-// Their resources, a plain and a held one: identifier, limit and kind.
+// What a held resource's first cell has more than a plain one's.
+const HELD: i64 = 1 << 32;
+
+// Their resources, a plain and a held one: identifier and kind, and limit.
 fn resources() -> [ResourceRow; 2] {
-    [[7, 4, 0], [9, 3, 1]]
+    [[7, 4], [9 + HELD, 3]]
 }
 
 // Bands of the first resource: place, first day and limit.
@@ -70,17 +73,17 @@ fn counts() {
     show_counts(plan::MOST_TASKS + 1, 0, 2, &b);
     let q = resources();
     show_resources(&q[..0]);
-    let many: [ResourceRow; plan::MOST_RESOURCES + 1] = [[7, 4, 0]; plan::MOST_RESOURCES + 1];
+    let many: [ResourceRow; plan::MOST_RESOURCES + 1] = [[7, 4]; plan::MOST_RESOURCES + 1];
     show_resources(&many);
 }
 
 // Refusals 3 and 4: an identifier repeats, a limit is outside; the identifiers come first, over all resources.
 fn limits() {
-    let twice: [ResourceRow; 3] = [[7, 4, 0], [9, 3, 0], [7, 5, 1]];
+    let twice: [ResourceRow; 3] = [[7, 4], [9, 3], [7 + HELD, 5]];
     show_resources(&twice);
-    let above: [ResourceRow; 2] = [[7, 4, 0], [9, 1_000_001, 0]];
+    let above: [ResourceRow; 2] = [[7, 4], [9, 1_000_001]];
     show_resources(&above);
-    let both: [ResourceRow; 2] = [[7, -1_000_001, 0], [7, 3, 0]];
+    let both: [ResourceRow; 2] = [[7, -1_000_001], [7, 3]];
     show_resources(&both);
 }
 
@@ -127,7 +130,7 @@ fn many_levels() {
 // Two faults: 4 before 13, and 13 before 5.
 fn meetings() {
     let twice: [BandRow; 2] = [[0, 2, 5], [0, 2, 1]];
-    let above: [ResourceRow; 2] = [[7, 4, 0], [9, 1_000_001, 0]];
+    let above: [ResourceRow; 2] = [[7, 4], [9, 1_000_001]];
     show(entry::check(&above, &twice, &tasks()));
     let crossed: [TaskRow; 2] = [[1, 2, 1, 2, 2, 3, 4, 0, 1], [3, 0, 6, 2, 2, 2, 8, 0, 4]];
     show(entry::check(&resources(), &twice, &crossed));

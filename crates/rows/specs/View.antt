@@ -1,15 +1,13 @@
--- The view: a row of nine numbers as a task, of three as a resource or a band, lists of rows as lists of these, and rows of resources
+-- The view: a row of nine numbers as a task, of two as a resource, of three as a band, lists of rows as lists of these, and rows of resources
 -- and bands as a frame.
-use mathlib.Core.Bool.{cond}
 use mathlib.Core.List.{List, map}
-use Prim.Native.Nat.{ℕ, _-_, _^_}
-use lib.IntN.{ℤ, pos, negsuc}
+use Prim.Native.Nat.{ℕ, _%_, _^_}
+use lib.IntN.{ℤ, pos}
 use lib.Signed.{ltZ}
 use mir.Syntax.{w32, w64}
-use mir.Val.{ofZ, hbits}
+use mir.Val.{ofZ, toZ, bits}
 use Rattle.integers.specs.Lists.{cell}
 use Rattle.integers.specs.Tests.{if}
-use Rattle.integers.specs.Whole.{eqZ}
 use Rattle.plan.specs.declared.Task.{Task}
 use Rattle.plan.specs.declared.Power.{Power}
 use Rattle.plan.specs.declared.Resource.{Resource}
@@ -44,20 +42,17 @@ taskOf r =
 unfoldable pub tasksOf : List (List ℤ) → List Task
 tasksOf s = map taskOf s
 
--- "any signed 32-bit number"; a cell outside of these counts as 0
-abbrev pub idHigh : ℕ
-idHigh = 2 ^ hbits w32 - 1
-
+-- "any signed 32-bit number": the low 32 bits of a cell
 unfoldable pub idOf : ℤ → ℤ
-idOf x = cond (ltZ x (negsuc idHigh)) (pos 0) (cond (ltZ (pos idHigh) x) (pos 0) x)
+idOf x = toZ w32 (ofZ w64 x % 2 ^ bits w32)
 
--- 0 is plain; any other cell counts as held
+-- the kind lies above them: a cell that is larger than 32 bits is a held resource's
 unfoldable pub kindOf : ℤ → Kind
-kindOf x = if (eqZ x (pos 0)) Plain Held
+kindOf x = if (ltZ x (pos (2 ^ bits w32))) Plain Held
 
--- identifier, limit and kind
+-- identifier and kind, and limit
 unfoldable pub resourceOf : List ℤ → Resource
-resourceOf r = record { id = idOf (cell r 0); limit = power (cell r 1); kind = kindOf (cell r 2) }
+resourceOf r = record { id = idOf (cell r 0); limit = power (cell r 1); kind = kindOf (cell r 0) }
 
 unfoldable pub resourcesOf : List (List ℤ) → List Resource
 resourcesOf s = map resourceOf s

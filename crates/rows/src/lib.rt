@@ -1,9 +1,10 @@
-// The core's lists: a task stands in a row of nine numbers, a resource or a band in a row of three, a list is a lent slice of rows.
+// The core's lists: a task stands in a row of nine numbers, a resource in a row of two, a band in a row of three, a list is a lent slice of rows.
 // Slices of rows of numbers are lent and changed in place; the view in specs/ says which tasks, resources and bands they hold.
 ghost use mathlib.Core.Path.{_≡_};
 ghost use Prim.Native.Nat.{_<_};
-ghost use mir.Syntax.{w64};
-ghost use mir.Val.{ofZ};
+ghost use lib.IntN.{pos};
+ghost use mir.Syntax.{w32, w64};
+ghost use mir.Val.{ofZ, toZ};
 ghost use lib.ListN.{length, getD, set};
 ghost use Rattle.integers.specs.Tests.{if};
 ghost use Rattle.plan.specs.Sets.{union};
@@ -25,8 +26,8 @@ pub const TASK_CELLS: usize = 9;
 
 pub type TaskRow = [i64; TASK_CELLS];
 
-// A row: identifier, limit and kind.
-pub const RESOURCE_CELLS: usize = 3;
+// A row: identifier and kind, and limit. The kind stands in the identifier's cell, which has bits to spare: no third cell is carried along.
+pub const RESOURCE_CELLS: usize = 2;
 
 pub type ResourceRow = [i64; RESOURCE_CELLS];
 
@@ -117,47 +118,53 @@ pub fn put_task(s: &mut [TaskRow], i: usize, t: Task)
     s[i] = r;
 }
 
-// The ends of a signed number of 32 bits.
-const ID_LOW: i64 = -(1 << 31);
+// The first number that takes more than 32 bits, and the first whose 32nd bit is set.
+const WHOLE: i64 = 1 << 32;
 
-const ID_HIGH: i64 = (1 << 31) - 1;
+const WHOLE_SET: u64 = 1 << 32;
 
-// A cell as an identifier, 0 where it is none, and back.
+const HALF: u32 = 1 << 31;
+
+// The 32 bits of an identifier as a number, and back.
+fn bits_of(x: i32) -> i64
+    ensures { λ r. ⌜ r ≡ pos (ofZ w32 x) ⌝ }
+{
+    if x < 0 { x as i64 + WHOLE } else { x as i64 }
+}
+
+fn id_in(x: u32) -> i32
+    ensures { λ r. ⌜ r ≡ toZ w32 x ⌝ }
+{
+    if x < HALF {
+        x as i32
+    } else {
+        (x as i64 - WHOLE) as i32
+    }
+}
+
+// A cell's identifier: its low 32 bits, so that every cell has one and nothing is tested.
 fn id_of(x: i64) -> i32
     ensures { λ r. ⌜ r ≡ idOf x ⌝ }
 {
-    if x < ID_LOW {
-        return 0;
-    }
-    if ID_HIGH < x {
-        return 0;
-    }
-    x as i32
+    id_in((set_of(x) % WHOLE_SET) as u32)
 }
 
-fn id_in(x: i32) -> i64
-    ensures { λ r. ⌜ idOf r ≡ x ⌝ }
-{
-    x as i64
-}
-
-// A cell as a kind, and back: 0 is plain, any other number held.
+// A cell's kind: a held resource's is 2^32 more than a plain one's.
 fn kind_of(x: i64) -> Kind
     ensures { λ r. ⌜ r ≡ kindOf x ⌝ }
 {
-    if integers::is_same(x, 0) {
-        Kind::Plain
-    } else {
-        Kind::Held
-    }
+    if x < WHOLE { Kind::Plain } else { Kind::Held }
 }
 
-fn kind_in(k: Kind) -> i64
-    ensures { λ r. ⌜ kindOf r ≡ k ⌝ }
+// The cell of an identifier and a kind.
+fn cell_of(x: i32, kind: Kind) -> i64
+    ensures named { λ r. ⌜ idOf r ≡ x ⌝ }
+    ensures kept { λ r. ⌜ kindOf r ≡ kind ⌝ }
 {
-    match k {
-        Kind::Plain => 0,
-        Kind::Held => 1,
+    let low = bits_of(x);
+    match kind {
+        Kind::Plain => low,
+        Kind::Held => low + WHOLE,
     }
 }
 
@@ -167,7 +174,7 @@ fn resource_of(r: ResourceRow) -> Resource
     Resource {
         id: id_of(r[0]),
         limit: Power(r[1]),
-        kind: kind_of(r[2]),
+        kind: kind_of(r[0]),
     }
 }
 
@@ -175,7 +182,7 @@ fn resource_row(q: Resource) -> ResourceRow
     ensures { λ r. ⌜ resourceOf r ≡ q ⌝ }
 {
     let kind = q.kind;
-    [id_in(q.id), q.limit.0, kind_in(kind)]
+    [cell_of(q.id, kind), q.limit.0]
 }
 
 pub fn resource_at(s: &[ResourceRow], i: usize) -> Resource
@@ -207,7 +214,7 @@ pub fn kind_at(s: &[ResourceRow], i: usize) -> Kind
     requires { ⌜ i < length (now s) ⌝ }
     ensures { λ r. ⌜ r ≡ (getD (resourcesOf (now (s .entry))) i noResource) .kind ⌝ }
 {
-    kind_of(s[i][2])
+    kind_of(s[i][0])
 }
 
 // Another limit in its place; the identifier and the kind stay as they lie.
@@ -216,7 +223,7 @@ pub fn put_limit(s: &mut [ResourceRow], i: usize, limit: Power)
     ensures { λ _. ⌜ resourcesOf (now (s .exit)) ≡ set (resourcesOf (now (s .entry))) i (withLimit limit (getD (resourcesOf (now (s .entry))) i noResource)) ⌝ }
 {
     let r = s[i];
-    s[i] = [r[0], limit.0, r[2]];
+    s[i] = [r[0], limit.0];
 }
 
 fn band_of(r: BandRow) -> Band

@@ -2,16 +2,17 @@
 // A task that asks for no more slack than every stretch leaves is passed over: no rule touches it. Cost: the profile, and for each task
 // that is not passed over the searches of narrow.
 ghost use mathlib.Core.Path.{_≡_};
-ghost use Prim.Native.Nat.{_<_};
+ghost use Prim.Native.Nat.{_+_, _<_};
 ghost use lib.ListN.{length};
 ghost use Rattle.integers.specs.Lists.{Each};
 ghost use Rattle.plan.specs.Sets.{setBits};
 ghost use Rattle.plan.specs.Tasks.{Bounded, TaskFits};
-ghost use Rattle.rules.specs.Frame.{limitFrom, floor};
+ghost use Rattle.rules.specs.Frame.{limitFrom, isHeld, floor};
 ghost use Rattle.rules.specs.Step.{atLeastStep};
 ghost use Rattle.rows.specs.View.{tasksOf, bandsOf};
 ghost use Rattle.rows.specs.Changes.{outcomeOf, Notes};
 ghost use Rattle.stretches.specs.View.{stretchesOf};
+ghost use Rattle.held.specs.Held.{roomIf};
 ghost use Rattle.profile.specs.Lent.{Lent, Asks};
 ghost use Rattle.step.specs.Told.{EachByPage};
 ghost use Rattle.step.specs.Least.{lowered, Under, canBeBarred, asksMore};
@@ -124,7 +125,7 @@ pub fn step(
     ss: &mut [StretchRow],
 ) -> Stepped
     requires { ⌜ Asks r limit (bandsOf (now b)) (length (now s)) ⌝ }
-    requires { ⌜ Lent (length (now s)) (length (now b)) (length (now keys)) (length (now spare)) (length (now ss)) ⌝ }
+    requires { ⌜ Lent (length (now s)) (roomIf (isHeld kind) + length (now b)) (length (now keys)) (length (now spare)) (length (now ss)) ⌝ }
     requires { ⌜ Each (TaskFits setBits) (tasksOf (now s)) ⌝ }
     ensures outcome { λ o. ⌜ outcomeOf o (tasksOf (now (s .exit))) ≡ atLeastStep r (floor kind (limitFrom r (limit .0) (bandsOf (now (b .entry))))) (tasksOf (now (s .entry))) ⌝ }
     ensures noted { λ o. ⌜ Notes o (tasksOf (now (s .entry))) (tasksOf (now (s .exit))) ⌝ }

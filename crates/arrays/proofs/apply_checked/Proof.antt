@@ -2,7 +2,9 @@
 use native.Mathlib.Omega.{arith}
 use borrow.Author.Needs.{needs}
 use Rattle.rules.proofs.Checks.{accepts}
-use Rattle.rows.specs.View.{tasksOf, atLeast}
+use Rattle.rows.specs.View.{tasksOf, resourcesOf, atLeast}
+use Rattle.held.specs.Held.{someHeld}
+use Rattle.held.proofs.Room.{room-most}
 use Rattle.rows.proofs.View.{length-tasks, length-bands}
 use Rattle.arrays.proofs.apply_checked.Statement.{statement}
 use Rattle.arrays.proofs.apply_checked.Tie as tie
@@ -25,11 +27,17 @@ apply-requires c κs =
     let few = a .few in
     let few-bands = a .few-bands in
     let l = length-tasks s in
-    let k = length-bands b in (
+    let k = length-bands b in
+    let room = room-most (someHeld (resourcesOf (start .args .q .now))) in (
       start .pre .0,
       record {
         accepted = start .pre .1;
-        lent = record { keys-long = omega (arith, few, few-bands, l, k); spare-long = omega (arith, few, few-bands, l, k); stretches-long = omega (arith, few, few-bands, l, k) };
+        lent =
+            record {
+              keys-long = omega (arith, few, few-bands, l, k, room);
+              spare-long = omega (arith, few, few-bands, l, k, room);
+              stretches-long = omega (arith, few, few-bands, l, k, room);
+            };
       },
     )
 

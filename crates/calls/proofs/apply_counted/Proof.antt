@@ -1,16 +1,20 @@
--- Small rows where no band follows the resources; a file that is cut short is refused in any.
-use mathlib.Core.Path.{sym, _∙_}
+-- Small rows where no band follows the resources and they have room; a file that is cut short is refused in any.
 use Rattle.integers.proofs.Tests.{not-out}
-use Rattle.calls.proofs.Files.{unbanded-in, unbanded-answered}
+use Rattle.calls.specs.Rows.{Bare}
+use Rattle.calls.proofs.Files.{bare-answered}
 use borrow.Author.Needs.{needs}
 use Rattle.calls.proofs.apply_counted.Statement.{statement}
 use Rattle.calls.proofs.apply_counted.Tie as tie
 
-has-bands-requires : tie.Need-has-bands-requires
-has-bands-requires c κs = search needs
+asks-more-requires : tie.Need-asks-more-requires
+asks-more-requires c κs = search needs
+
+-- no band follows, and there is room for a held resource's span, if there is one
+bare : (t : tie.Then2) → Bare (t .before .before .before .before .before .before .args .h) (t .before .before .before .before .before .before .args .file .now)
+bare t = t .before .asks-more .ensures (not-out (t .before .asks-more .result) (t .if2 .taken))
 
 apply-few-requires : tie.Need-apply-few-requires
-apply-few-requires c κs = (search needs, search needs)
+apply-few-requires c κs = (search needs, bare (c .before) .unfull)
 
 same-length : tie.Need-same-length
 same-length c = search needs
@@ -18,11 +22,8 @@ same-length c = search needs
 returns : tie.Need-returns
 returns c =
     let t = c .before .before .before .before in
-    let b = t .before in
-    let s = b .before .before .before .before .before in
-    unbanded-answered (s .args .c) (s .args .h) (s .args .file .now) (s .args .out .now)
-    (unbanded-in (s .args .h) (s .args .file .now) (sym (b .has-bands .ensures) ∙ not-out (b .has-bands .result) (t .if2 .taken)))
-    (c .before .before .apply-few .ensures)
+    let s = t .before .before .before .before .before .before in
+    bare-answered (s .args .c) (s .args .h) (s .args .file .now) (s .args .out .now) (bare t) (c .before .before .apply-few .ensures)
 
 file-length-requires : tie.Need-file-length-requires
 file-length-requires c κs = search needs
@@ -49,7 +50,7 @@ pub apply-counted-spec : {M : Type 1} → statement M
 apply-counted-spec =
     tie.close
     (tie.spec
-    has-bands-requires
+    asks-more-requires
     apply-few-requires
     same-length
     returns

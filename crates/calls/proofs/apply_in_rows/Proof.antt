@@ -16,6 +16,7 @@ use Rattle.format.specs.Format.{senseFrom}
 use Rattle.format.specs.Reading.{readAfter, readThrough, headerPlan}
 use Rattle.format.proofs.Files.{after-is}
 use Rattle.answers.specs.Files.{fileResult, afterRead, planFile}
+use Rattle.calls.proofs.Files.{read-held}
 use borrow.Author.Needs.{needs}
 use Rattle.calls.proofs.apply_in_rows.Statement.{statement}
 use Rattle.calls.proofs.apply_in_rows.Tie as tie
@@ -101,16 +102,19 @@ apply-to-plan-requires c κs =
     let u = length-take-le k (b d) some in
     let same = d .read-rest .kept .1 .1 .1 .1 .0 in
     let alike = d .read-rest .kept .1 .1 .1 .0 in
+    let read = sym (read-as d (Run.Through k) (e .k .given .1)) in
+    let held = read-held (length (start d .args .b .now)) h (start d .args .file .now) read in
     record {
       accepted =
           check-sense AtLeast (senseFrom (h .sense)) (resourcesOf (take (h .resources) (q d))) (bandsOf (take k (b d))) (tasksOf (take (h .tasks) (s d)))
-          ∙ after-is (length (start d .args .b .now)) h (start d .args .file .now) (sym (read-as d (Run.Through k) (e .k .given .1))) .1;
+          ∙ after-is (length (start d .args .b .now)) h (start d .args .file .now) read .1;
       lent =
-          record {
+          rw held
+          (record {
             keys-long = omega (arith, l .keys-long, t, u, few, some, same, alike);
             spare-long = omega (arith, l .spare-long, t, u, few, some, same, alike);
             stretches-long = omega (arith, l .stretches-long, t, u, few, some, same, alike);
-          };
+          });
     }
 
 same-length : tie.Need-same-length

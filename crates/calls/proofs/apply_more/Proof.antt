@@ -1,20 +1,17 @@
--- Rows with bands where one follows the resources; else larger rows without.
+-- Rows with bands where one follows the resources or a resource is held; else larger rows without.
 use native.Mathlib.Omega.{arith}
-use mathlib.Core.Path.{sym, _∙_}
-use Rattle.calls.specs.Rows.{Unbanded}
-use Rattle.calls.proofs.Files.{unbanded-in, unbanded-answered}
+use Rattle.calls.specs.Rows.{Bare}
+use Rattle.calls.proofs.Files.{bare-answered}
 use borrow.Author.Needs.{needs}
 use Rattle.calls.proofs.apply_more.Statement.{statement}
 use Rattle.calls.proofs.apply_more.Tie as tie
 
 -- no band follows
-none : (c : tie.Else1) → Unbanded (c .before .before .before .before .args .h) (c .before .before .before .before .args .file .now)
-none c =
-    let s = c .before .before .before .before in
-    unbanded-in (s .args .h) (s .args .file .now) (sym (c .before .has-bands .ensures) ∙ c .if1 .left)
+none : (c : tie.Else1) → Bare (c .before .before .before .before .args .h) (c .before .before .before .before .args .file .now)
+none c = c .before .asks-more .ensures (c .if1 .left)
 
-has-bands-requires : tie.Need-has-bands-requires
-has-bands-requires c κs = search needs
+asks-more-requires : tie.Need-asks-more-requires
+asks-more-requires c κs = search needs
 
 apply-banded-requires : tie.Need-apply-banded-requires
 apply-banded-requires c κs = search needs
@@ -34,7 +31,7 @@ same-length-2 c = search needs
 returns-2 : tie.Need-returns-2
 returns-2 c =
     let s = c .before .before .before .before .before .before .before .before .before in
-    unbanded-answered (s .args .c) (s .args .h) (s .args .file .now) (s .args .out .now) (none (c .before .before .before .before .before)) (c .before .before .apply-wide .ensures)
+    bare-answered (s .args .c) (s .args .h) (s .args .file .now) (s .args .out .now) (none (c .before .before .before .before .before)) (c .before .before .apply-wide .ensures)
 
 apply-large-requires : tie.Need-apply-large-requires
 apply-large-requires c κs = (omega arith, omega arith)
@@ -45,13 +42,13 @@ same-length-3 c = search needs
 returns-3 : tie.Need-returns-3
 returns-3 c =
     let s = c .before .before .before .before .before .before .before .before .before in
-    unbanded-answered (s .args .c) (s .args .h) (s .args .file .now) (s .args .out .now) (none (c .before .before .before .before .before)) (c .before .before .apply-large .ensures)
+    bare-answered (s .args .c) (s .args .h) (s .args .file .now) (s .args .out .now) (none (c .before .before .before .before .before)) (c .before .before .apply-large .ensures)
 
 pub apply-more-spec : {M : Type 1} → statement M
 apply-more-spec =
     tie.close
     (tie.spec
-    has-bands-requires
+    asks-more-requires
     apply-banded-requires
     same-length
     returns

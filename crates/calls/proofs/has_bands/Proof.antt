@@ -4,6 +4,7 @@ use lib.ListN.{drop}
 use Rattle.format.specs.declared.Mark.the-variants.{LB}
 use Rattle.format.specs.Format.{bandsFrom}
 use Rattle.cursor.proofs.Due.{mark-told}
+use Rattle.calls.specs.Rows.{bandedIn}
 use borrow.Author.Needs.{needs}
 use Rattle.calls.proofs.has_bands.Statement.{statement}
 use Rattle.calls.proofs.has_bands.Tie as tie
@@ -15,6 +16,7 @@ stands-before-requires : tie.Need-stands-before-requires
 stands-before-requires c κs = search needs
 
 returns : tie.Need-returns
+unfolding bandedIn
 returns c =
     let b = c .before in
     let a = b .before .before .args in

@@ -1,11 +1,10 @@
--- The identifier, then the limit, and the kind as it was told.
+-- The identifier, then the limit, and the kind that the mark tells.
 use native.Mathlib.Omega.{arith}
 use mir.Syntax.{w32, w64}
 use Rattle.integers.proofs.Z.{back}
 use Rattle.format.specs.declared.Mark.the-variants.{RS}
 use Rattle.format.specs.Format.{resourceFrom}
 use Rattle.format.proofs.Records.{numbers-placed}
-use Rattle.format.proofs.Layouts.{kind-back}
 use borrow.Author.Needs.{needs}
 use Rattle.cursor.proofs.resource_of.Statement.{statement}
 use Rattle.cursor.proofs.resource_of.Tie as tie
@@ -16,11 +15,15 @@ id-at-requires c κs = search needs
 cell-at-requires : tie.Need-cell-at-requires
 cell-at-requires c κs = search needs
 
+kind-from-requires : tie.Need-kind-from-requires
+kind-from-requires c κs = search needs
+
 returns : tie.Need-returns
 unfolding resourceFrom
 returns c =
-    let id = c .before .id-at in
-    rw (numbers-placed RS (c .before .before .before .args .b .now), back w32 (id .result) (omega arith), back w64 (c .cell-at .result) (omega arith), id .ensures, c .cell-at .ensures, kind-back (c .before .before .before .args .kind))
+    let limit = c .before .cell-at in
+    let id = c .before .before .id-at in
+    rw (numbers-placed RS (c .before .before .before .before .args .b .now), back w32 (id .result) (omega arith), back w64 (limit .result) (omega arith), id .ensures, limit .ensures, c .kind-from .ensures)
 
 pub resource-of-spec : {M : Type 1} → statement M
-resource-of-spec = tie.close (tie.spec id-at-requires cell-at-requires returns)
+resource-of-spec = tie.close (tie.spec id-at-requires cell-at-requires kind-from-requires returns)

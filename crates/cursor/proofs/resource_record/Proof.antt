@@ -5,14 +5,10 @@ use borrow.Author.Needs.{needs}
 use Rattle.cursor.proofs.resource_record.Statement.{statement}
 use Rattle.cursor.proofs.resource_record.Tie as tie
 
-kind-mark-requires : tie.Need-kind-mark-requires
-kind-mark-requires c κs = search needs
-
 returns : tie.Need-returns
 returns c =
-    let t = c .before in
-    let a = t .before .before .args in
-    rw (resource-told (a .kind) (a .at) (a .b .now), lt-ltb _ _ (t .if1 .taken), c .kind-mark .ensures)
+    let s = c .before .before in
+    rw (resource-told (s .args .k) (s .pre .1) (s .args .at) (s .args .b .now), lt-ltb _ _ (c .if1 .taken))
 
 add-t5 : tie.Need-add-t5
 add-t5 c = search needs
@@ -22,8 +18,8 @@ resource-of-requires c κs = search needs
 
 returns-2 : tie.Need-returns-2
 returns-2 c =
-    let a = c .before .before .before .args in
-    rw (resource-told (a .kind) (a .at) (a .b .now), le-ltb _ _ (c .before .if1 .left), c .resource-of .ensures)
+    let s = c .before .before .before in
+    rw (resource-told (s .args .k) (s .pre .1) (s .args .at) (s .args .b .now), le-ltb _ _ (c .before .if1 .left), c .resource-of .ensures)
 
 pub resource-record-spec : {M : Type 1} → statement M
-resource-record-spec = tie.close (tie.spec kind-mark-requires returns add-t5 resource-of-requires returns-2)
+resource-record-spec = tie.close (tie.spec returns add-t5 resource-of-requires returns-2)

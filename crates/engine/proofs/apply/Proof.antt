@@ -14,7 +14,7 @@ use Rattle.rules.proofs.Calls.{call-keeps}
 use Rattle.rows.specs.View.{tasksOf, resourcesOf, bandsOf, frameOf, atLeast}
 use Rattle.negation.specs.Senses.{tasksFor, resourcesFor, bandsFor, resultFor}
 use Rattle.negation.proofs.Senses.{call-for, call-back, resources-twice, bands-twice}
-use Rattle.engine.proofs.Calls.{accepted-for}
+use Rattle.engine.proofs.Calls.{accepted-for, held-for}
 use borrow.Author.Needs.{needs}
 use Rattle.engine.proofs.apply.Statement.{statement}
 use Rattle.engine.proofs.apply.Tie as tie
@@ -57,7 +57,7 @@ apply-at-least-requires c κs =
       for-placed d,
       record {
         accepted = for-accepted d;
-        lent = rw (k .0, k .1 .0) l;
+        lent = rw (k .0, k .1 .0, d .negate-for .ensures .0, held-for (b .args .sense) (qs b)) l;
       },
     )
 

@@ -20,11 +20,11 @@ span-of-requires c κs = search needs
 put-span-requires : tie.Need-put-span-requires
 put-span-requires c κs =
     let a = c .before .before .before .before .before in
-    (a .pre .0 .1, rw (c .before .span-of .ensures) (span-fits (a .args .r) (tasksOf (a .args .s .now)) (a .pre .1)))
+    (rw (c .before .before .enum-told2 .given .1) at (a .pre .0 .1), rw (c .before .span-of .ensures) (span-fits (a .args .r) (tasksOf (a .args .s .now)) (a .pre .1)))
 
 returns : tie.Need-returns
 unfolding heldKeys
-returns c = (rw (c .enum-told .given .1) (laid-none _ _), omega arith)
+returns c = (rw (c .enum-told .given .1) (laid-none _ _), rw (c .enum-told .given .1) (omega arith))
 
 same-length : tie.Need-same-length
 same-length c = search needs
@@ -35,7 +35,7 @@ returns-2 c =
     let p = c .before .before in
     let s = p .before .before in
     let laid = rw (s .span-of .ensures) at (p .put-span .ensures .0) in
-    (rw (s .before .enum-told2 .given .1) laid, p .put-span .ensures .1)
+    (rw (s .before .enum-told2 .given .1) laid, rw (s .before .enum-told2 .given .1) (p .put-span .ensures .1))
 
 pub put-held-spec : {M : Type 1} → statement M
 put-held-spec =

@@ -15,6 +15,7 @@ use Rattle.rules.specs.Step.{atLeastStep}
 use Rattle.rules.proofs.Checks.{Accepts, accepts, check-wide}
 use Rattle.rows.specs.View.{tasksOf, atLeast}
 use Rattle.rows.proofs.View.{length-tasks}
+use Rattle.held.proofs.Room.{room-at}
 use Rattle.idle.proofs.Mask.{at-least-step, step-took}
 use Rattle.passes.proofs.Ready.{place-inside, place-small}
 use Rattle.passes.proofs.resource_step.Statement.{statement}
@@ -46,7 +47,9 @@ step-requires c κs =
     let l = c .before .before .before .before .before in
     let b = l .before .before .before in
     let k = known b in
-    let r = b .args .r in (
+    let r = b .args .r in
+    let e = b .pre .0 .1 .lent in
+    let some = rw (sym (c .before .before .before .before .kind-at .ensures)) at (room-at (f b .resources) r (inside b)) in (
       record {
         place = small b;
         limited = subst (λ (p : Power). Within powerEnds (p .0)) (sym (l .limit-at .ensures)) (k .limits r (inside b));
@@ -54,7 +57,14 @@ step-requires c κs =
         few-bands = k .few-bands;
         few = omega (arith, k .few, length-tasks (b .args .s .now));
       },
-      (b .pre .0 .1 .lent, check-wide (f b) (ts b) (b .pre .0 .1 .accepted)),
+      (
+        record {
+          keys-long = omega (arith, e .keys-long, some);
+          spare-long = omega (arith, e .spare-long, some);
+          stretches-long = omega (arith, e .stretches-long, some);
+        },
+        check-wide (f b) (ts b) (b .pre .0 .1 .accepted),
+      ),
     )
 
 some-touched-requires : tie.Need-some-touched-requires

@@ -3,13 +3,14 @@ use native.Mathlib.Omega.{arith}
 use mathlib.Core.List.{_++_}
 use lib.ListN.{length}
 use Rattle.integers.proofs.Z.{z, ~z}
-use Rattle.rules.specs.Frame.{limitFrom, floor}
+use Rattle.rules.specs.Frame.{limitFrom, isHeld, floor}
 use Rattle.rows.specs.View.{tasksOf, bandsOf}
 use Rattle.rows.proofs.View.{length-bands}
 use Rattle.stretches.specs.View.{stretchesOf}
 use Rattle.stretches.proofs.View.{length-stretches}
 use Rattle.levels.specs.Levels.{bandKeys}
 use Rattle.held.specs.Held.{heldKeys}
+use Rattle.held.proofs.Room.{room-most}
 use Rattle.profile.proofs.Turns.{floor-turns}
 use Rattle.profile.proofs.Promise.{profiled}
 use borrow.Author.Needs.{needs}
@@ -40,7 +41,7 @@ sweep-events-requires c κs =
     let few = length-bands (a .args .b .now) in (
       (
         omega (arith, m, n, q .kept .1 .1 .0, l .kept .1 .1 .1 .1 .1 .1 .0, a .pre .1 .0),
-        omega (arith, m, n, few, a .pre .0 .few, a .pre .0 .few-bands),
+        omega (arith, m, n, few, a .pre .0 .few, a .pre .0 .few-bands, room-most (isHeld (a .args .kind))),
         omega (arith, m, n, a .pre .1 .0),
         omega (arith, m, n, a .pre .1 .0),
       ),

@@ -14,6 +14,8 @@ use Rattle.rules.specs.Calls.{callOf, resultOf}
 use Rattle.rules.proofs.Checks.{accepts, check-sense}
 use Rattle.rows.specs.View.{tasksOf, resourcesOf, bandsOf, frameOf}
 use Rattle.rows.proofs.View.{length-bands, length-tasks}
+use Rattle.held.specs.Held.{someHeld}
+use Rattle.held.proofs.Room.{room-most}
 use Rattle.text.proofs.Texts.{put-is, put-wider}
 use Rattle.report.specs.Report.{resultText}
 use borrow.Author.Needs.{needs}
@@ -56,11 +58,12 @@ apply-requires : tie.Need-apply-requires
 apply-requires c κs =
     let b = c .before .before .before .before .before .before .before in
     let l = few b in
-    let k = few-bands b in (
+    let k = few-bands b in
+    let room = room-most (someHeld (resourcesOf (b .args .q .now))) in (
       refl,
       record {
         accepted = check-sense AtLeast (b .args .sense) (resourcesOf (b .args .q .now)) (bandsOf (b .args .b .now)) (ts b) ∙ b .pre .0;
-        lent = record { keys-long = omega arith; spare-long = omega arith; stretches-long = omega arith };
+        lent = record { keys-long = omega (arith, room); spare-long = omega (arith, room); stretches-long = omega (arith, room) };
       },
     )
 

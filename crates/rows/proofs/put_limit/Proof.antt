@@ -1,4 +1,4 @@
--- The limit's cell stored is the limit put; the cells beside it stay.
+-- The limit's cell stored is the limit put.
 use native.Mathlib.Omega.{arith}
 use mathlib.Core.List.{[]}
 use lib.IntN.{pos}
@@ -20,9 +20,6 @@ slice-copy-out-r c = search needs
 array-copy-out-t10 : tie.Need-array-copy-out-t10
 array-copy-out-t10 c = search needs
 
-array-copy-out-t13 : tie.Need-array-copy-out-t13
-array-copy-out-t13 c = search needs
-
 mul-t5 : tie.Need-mul-t5
 mul-t5 c = search needs
 
@@ -35,9 +32,9 @@ same-length c = search needs
 returns : tie.Need-returns
 unfolding resourceOf
 returns c =
-    let a = c .before .before .before .before .args in
+    let a = c .before .before .before .args in
     let r = getD (a .s .now) (a .i) [] in
-    rw (resources-set (a .s .now) (a .i), resources-at (a .s .now) (a .i), back w64 (getD r 0 (pos 0)) (c .before .before .t10 .given), back w64 (a .limit .0) (omega (arith, c .struct-told .given)), back w64 (getD r 2 (pos 0)) (c .before .t13 .given))
+    rw (resources-set (a .s .now) (a .i), resources-at (a .s .now) (a .i), back w64 (getD r 0 (pos 0)) (c .before .t10 .given), back w64 (a .limit .0) (omega (arith, c .struct-told .given)))
 
 pub put-limit-spec : {M : Type 1} → statement M
 put-limit-spec =
@@ -46,7 +43,6 @@ put-limit-spec =
     mul-r
     slice-copy-out-r
     array-copy-out-t10
-    array-copy-out-t13
     mul-t5
     slice-set-from-s
     same-length

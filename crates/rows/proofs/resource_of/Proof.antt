@@ -27,7 +27,7 @@ returns c =
     let t = c .before .before in
     let b = t .before in
     simp (back w32, b .id-of .ok)
-    (simp (b .id-of .ensures, back w64, b .before .id-of-arg .given, t .t9 .given, c .kind-of .ensures, c .before .kind-of-arg .given))
+    (simp (b .id-of .ensures, back w64, b .before .id-of-arg .given, t .t9 .given, c .kind-of .ensures))
 
 pub resource-of-spec : {M : Type 1} → statement M
 resource-of-spec =
