@@ -412,7 +412,8 @@ fn has_bands(file: &[u8], resources: usize) -> bool
     first.stands_before(Mark::LB, file)
 }
 
-// Whether the record of one of so many resources has the second mark byte of RH; no where none is held. Of a file that ends before them it says yes.
+// Whether the record of one of so many resources has the second mark byte of RH: it says no only where none is held, and yes of a file that ends
+// before their end.
 fn has_held(file: &[u8], resources: usize) -> bool
     requires { ⌜ resources ≤ mostResources ⌝ }
     ensures { λ r. ⌜ (r ≡ false → heldIn resources (now (file .entry)) ≡ false) ⌝ }
@@ -448,7 +449,7 @@ fn asks_more(file: &[u8], h: Header) -> bool
     false
 }
 
-// Larger rows, for at least as many tasks as the header counts, or rows with bands. It is called from two places, each with a number that the
+// Larger rows, for at least as many tasks as the header counts, or rows for bands and a held resource's span. It is called from two places, each with a number that the
 // compiler can't know, so that these rows, 68 KB for the most, stay out of the frame of every smaller call: each call touches its whole frame,
 // page by page.
 fn apply_more(c: Call, least: usize, file: &[u8], h: Header, out: &mut [u8]) -> u64

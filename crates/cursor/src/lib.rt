@@ -227,7 +227,7 @@ impl Cursor {
         Record::Ended
     }
 
-    // The same record, found sooner where it is the one that is due: a run of records of one mark asks for no other.
+    // The same record, found sooner where it is the one that is due: a run of records asks for one mark, and RH in place of RS is found by `next`.
     pub fn next_due(self, due: Mark, file: &[u8]) -> Record
         ensures { λ r. ⌜ r ≡ recordAt (now (file .entry)) (self .at) ⌝ }
     {

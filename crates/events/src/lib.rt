@@ -58,7 +58,7 @@ impl Count {
 // A change of power is a height come or gone, or one limit in place of another: LOW - HIGH at the least, HIGH - LOW at the most.
 const LEAST_CHANGE: Power = Power(Power::LOW.0 - Power::HIGH.0);
 
-// One sure task less, or one more.
+// One sure task less, or one more; or a held resource's span.
 const LEAST_COUNT: Count = Count(-1);
 
 // How many values a field tells apart: of the powers of two, so that a key comes apart by shifts and masks, the least that is enough for
@@ -96,7 +96,7 @@ pub fn sure_of(k: u64) -> Count
 
 // ---- events
 
-// From the first day on more power and more sure tasks, from the last day on as much less again.
+// From the first day on more power and more that makes a day count, sure tasks or a held resource's span, from the last day on as much less again.
 pub struct Change {
     pub from: Day,
     pub to: Day,

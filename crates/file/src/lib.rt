@@ -124,7 +124,7 @@ fn run_unless(checked: Checked, bands: usize) -> Run
     }
 }
 
-// All RS, all LB, all TK; "After the last record, leftover bytes 9".
+// All RS or RH, all LB, all TK; "After the last record, leftover bytes 9".
 fn read_body(
     file: &[u8],
     h: Header,

@@ -57,7 +57,7 @@ unfoldable pub marked : Mark → List ℕ → Bool
 marked k bs = and (eqb (getD bs 0 0) (getD (mark k) 0 0)) (eqb (getD bs 1 0) (getD (mark k) 1 0))
 
 -- ---- "In a file a held resource has mark RH in place of RS, same layout."
--- the mark that may stand where a mark is due as well as that one: no other mark has another in its place
+-- the mark that may stand where a mark is due as well as that one: RH for RS, for every other only itself
 abbrev pub inPlaceOf : Mark → Mark
 inPlaceOf PL = PL
 inPlaceOf RS = RH

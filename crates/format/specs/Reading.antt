@@ -135,7 +135,7 @@ tasksIn h file = runIn (tasks (h .resources)) file (tasksFrom (h .resources) (ba
 abbrev pub fileEnd : Header → List ℕ → ℕ
 fileEnd h file = fileLength (h .resources) (bandsIn h file) (h .tasks)
 
--- all RS, all LB, for a lent band list of so many places, all TK; "After the last record, leftover bytes 9"
+-- all RS or RH, all LB, for a lent band list of so many places, all TK; "After the last record, leftover bytes 9"
 unfoldable pub bodyDue : ℕ → Header → List ℕ → Checked
 bodyDue room h file =
     orElse (runDue resources file (size PL) (h .resources))

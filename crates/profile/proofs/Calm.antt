@@ -34,7 +34,7 @@ module _ (r : ℕ) (limit : Floor) (ts : List Task) {t : Task} (b : Bounded t) (
       omega (z, maxz (pos 0) (negℤ (t .height .high .0)), -z (total r ts i) (limit .on i)))
       (λ s. let d = and-second (possible r i t) _ (sym (barred-slack r limit ts t i s) ∙ h) in omega z)
 
-  -- where a task is sure, the slack is as large as the task's lift: it is not needed, and its height is enough
+  -- where a day counts, the slack is as large as the task's lift: it is not needed, and its height is enough
   module _ (calm : possible r i t ≡ true → liftOf t ≤ℤ tightOn r limit ts i) where
     pub calm-unneeded : needed r limit ts t i ≡ false
     unfolding liftOf

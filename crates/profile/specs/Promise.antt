@@ -15,7 +15,7 @@ use Rattle.stretches.specs.declared.Stretch.{Stretch}
 use Rattle.stretches.specs.View.{noStretch}
 use Rattle.stretches.specs.Tells.{Tells}
 
--- the first of the stretches on which a task is sure and all hopes together are below the limit, or as many as there are
+-- the first of the stretches whose days count and on which all hopes together are below the limit, or as many as there are
 pub record FirstShort (ss : List Stretch) (k : ℕ) : Type 0 where
   pub within : k ≤ length ss
   pub before : (q : ℕ) → q < k → pos 0 ≤ℤ getD ss q noStretch .tight .0

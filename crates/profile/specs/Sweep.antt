@@ -23,7 +23,7 @@ level x u = record { slack = power x; sure = count u }
 unfoldable pub changed : Level → ℕ → Level
 changed v k = level (v .slack .0 +ℤ powerOf k) (v .sure .0 +ℤ sureOf k)
 
--- the slack where a task is sure, else more than any slack
+-- the slack where the days count, else more than any slack
 unfoldable pub tightIn : Level → ℤ
 tightIn v = if (ltZ (pos 0) (v .sure .0)) (v .slack .0) big
 

@@ -91,7 +91,7 @@ fn has_day(t: Stretch) -> bool
     from.before(t.to)
 }
 
-// Whether some rule may touch some task on the stretch: that asks for more slack than it has, or for more where a task is sure.
+// Whether some rule may touch some task on the stretch: that asks for more slack than it has, or for more where a day counts.
 fn is_worth(t: Stretch, e: Extremes) -> bool
     ensures { λ r. ⌜ r ≡ worth e t ⌝ }
 {
@@ -159,7 +159,7 @@ fn sweep_events(
 
 // ---- shortfall
 
-// the first of n stretches on which a task is sure and the hopes are below the limit, or n
+// the first of n stretches whose days count and on which the hopes are below the limit, or n
 pub fn first_short(s: &[StretchRow], n: usize) -> usize
     requires { ⌜ n ≤ length (now s) ⌝ }
     ensures { λ r. ⌜ FirstShort (take n (stretchesOf (now (s .entry)))) r ⌝ }
@@ -168,7 +168,7 @@ pub fn first_short(s: &[StretchRow], n: usize) -> usize
     while k < n {
         let t = stretches::stretch_at(s, k);
         let tight = t.tight;
-        // Tight is the slack where a task is sure, and BIG elsewhere: below 0 it is a shortfall, and a day that was left out has none.
+        // Tight is the slack where a day counts, and BIG elsewhere: below 0 it is a shortfall, and a day that was left out has none.
         if tight.below(Power(0)) {
             return k;
         }

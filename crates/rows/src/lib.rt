@@ -129,7 +129,7 @@ const HALF: u32 = 1 << 31;
 fn bits_of(x: i32) -> i64
     ensures { λ r. ⌜ r ≡ pos (ofZ w32 x) ⌝ }
 {
-    if x < 0 { x as i64 + WHOLE } else { x as i64 }
+    (set_of(x as i64) % WHOLE_SET) as i64
 }
 
 fn id_in(x: u32) -> i32

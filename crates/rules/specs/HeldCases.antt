@@ -74,7 +74,7 @@ heldCases =
     ∷ stays (framed AtLeast (held (pos 1)) (band 0 (pos 0) (pos 0) ∷ [])) shortTasks
     -- one of duration 0 alone: from day 5 to day 4 there is none
     ∷ stays (atLeastHeld (pos 1)) (here (pos 5) (pos 0) (pos 5) (negsuc 0) ∷ [])
-    -- one of duration 0 and one that covers day 7: days 5 and 6 are at level 0, and no other task is possible there
+    -- one of duration 0 and one that covers day 7: days 5 and 6 are at level 0, and no task is possible there
     ∷ hasNone (atLeastHeld (pos 1)) (here (pos 5) (pos 0) (pos 5) (pos 0) ∷ here (pos 7) (pos 1) (pos 8) (pos 1) ∷ [])
     ∷ stays (atLeastHeld (pos 1)) (here (pos 7) (pos 0) (pos 7) (pos 0) ∷ here (pos 7) (pos 1) (pos 8) (pos 1) ∷ [])
     -- no task: nothing is checked
@@ -82,7 +82,7 @@ heldCases =
     -- a task that could go elsewhere does not hold: A is on the held one or on the other, and no rule tells which
     ∷ stays (unbanded AtLeast (heldResource (pos 7) (pos 2) ∷ resource (pos 9) (pos 0) ∷ []))
     (task 3 (one (pos 1)) (one (pos 2)) (one (pos 3)) (one (pos 2)) ∷ here (pos 5) (pos 2) (pos 7) (pos 2) ∷ [])
-    -- which day is first is open: the first task starts on day 3 at the latest, so day 3 counts and days 1 and 2 do not; nor is the last: it ends on
+    -- which day is first is open: the first task starts on day 3 at the latest, so day 3 counts and days 1 and 2 do not; so is the last: it ends on
     -- day 2 at the earliest, so days 0 and 1 count; of an open duration too
     ∷ stays (framed AtLeast (held (pos 1)) (band 0 (pos 3) (pos 0) ∷ [])) (moving 1 (pos 1) (pos 3) (pos 0) (pos 0) ∷ here (pos 5) (pos 0) (pos 5) (pos 0) ∷ [])
     ∷ hasNone (framed AtLeast (held (pos 0)) (band 0 (pos 3) (pos 1) ∷ band 0 (pos 4) (pos 0) ∷ [])) (moving 1 (pos 1) (pos 3) (pos 0) (pos 0) ∷ here (pos 5) (pos 0) (pos 5) (pos 0) ∷ [])
@@ -107,7 +107,7 @@ heldCases =
     ∷ hasNone (unbanded AtMost (held (negsuc 0))) (here (pos 1) (pos 1) (pos 2) (negsuc 0) ∷ here (pos 4) (pos 1) (pos 5) (negsuc 0) ∷ [])
     ∷ stays (unbanded AtMost (held (pos 0))) (here (pos 1) (pos 1) (pos 2) (negsuc 0) ∷ here (pos 4) (pos 1) (pos 5) (negsuc 0) ∷ [])
     ∷ stays (unbanded AtMost (limit (negsuc 0))) (here (pos 1) (pos 1) (pos 2) (negsuc 0) ∷ here (pos 4) (pos 1) (pos 5) (negsuc 0) ∷ [])
-    -- with bands: the bare days 3 and 4 meet limit 0 of the band between, on day 4 limit 2 stands again
+    -- with bands: the bare days 3 and 4 meet limit 0 of the band between; where limit 2 stands again from day 4 on, day 4 falls short
     ∷ stays (framed AtLeast (held (pos 2)) (band 0 (pos 3) (pos 0) ∷ band 0 (pos 5) (pos 2) ∷ [])) bareBetween
     ∷ hasNone (framed AtLeast (held (pos 2)) (band 0 (pos 3) (pos 0) ∷ band 0 (pos 4) (pos 2) ∷ [])) bareBetween
     ∷ []

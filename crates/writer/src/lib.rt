@@ -104,7 +104,7 @@ fn put_resources(b: &mut [u8], q: &[ResourceRow])
     }
 }
 
-// All LB, behind so many RS.
+// All LB, behind so many resources.
 fn put_bands(b: &mut [u8], n: usize, s: &[BandRow])
     requires { ⌜ (tasksFrom n (length (now s)) ≤ length (now b)) × Each BandSmall (bandsOf (now s)) ⌝ }
     ensures { λ _. ⌜ now (b .exit) ≡ sets (now (b .entry)) (bandsFrom n) (recordsBytes bands (bandsOf (now (s .entry)))) ⌝ }
@@ -118,7 +118,7 @@ fn put_bands(b: &mut [u8], n: usize, s: &[BandRow])
     }
 }
 
-// All TK, behind so many RS and LB.
+// All TK, behind so many resources and bands.
 fn put_tasks(b: &mut [u8], n: usize, k: usize, s: &[TaskRow])
     requires { ⌜ (fileLength n k (length (now s)) ≤ length (now b)) × Each TaskSmall (tasksOf (now s)) ⌝ }
     ensures { λ _. ⌜ now (b .exit) ≡ sets (now (b .entry)) (tasksFrom n k) (recordsBytes (tasks n) (tasksOf (now (s .entry)))) ⌝ }
