@@ -6,11 +6,11 @@ use Prim.Native.Nat.{ℕ, suc, _+_, _-_, _*_, _≤_, _<_}
 use native.Mathlib.Omega.{arith}
 use lib.IntN.{ℤ}
 use lib.Dec.{eqb, ltb}
-use lib.ListN.{length, getD, drop}
-use lib.Seq.{drop-drop, getD-drop}
+use lib.ListN.{length, drop}
+use lib.Seq.{drop-drop}
 use borrow.Author.Tests.{not-false, ltb-true, ltb-false}
-use Rattle.integers.specs.Tests.{or, any}
-use Rattle.integers.proofs.Tests.{clash, by-cases, and-off}
+use Rattle.integers.specs.Tests.{and, or, any}
+use Rattle.integers.proofs.Tests.{clash, by-cases, or-first, or-second, or-none}
 use Rattle.plan.specs.declared.Call.{Call}
 use Rattle.plan.specs.declared.Checked.{Checked}
 use Rattle.plan.specs.declared.Checked.the-variants.{Accepted}
@@ -36,7 +36,7 @@ use Rattle.events.specs.Events.{eventsATask}
 use Rattle.held.specs.Held.{roomIf, someHeld}
 use Rattle.held.proofs.Room.{room-most}
 use Rattle.runs.proofs.Rooms.{no-bands}
-use Rattle.calls.specs.Rows.{bandedIn, heldIn, Bare, RowsAnswered, HeaderAnswered}
+use Rattle.calls.specs.Rows.{bandedIn, heldIn, small, middle, fillsRows, asksMore, RowsAnswered, HeaderAnswered}
 use Rattle.answers.specs.Files.{answerFile, afterRead, lentDue, planCall, planFile, refusedFile}
 
 -- ---- each refusal in its turn
@@ -72,9 +72,12 @@ pub unbanded-same : (h : Header) (file : List ℕ) → bandedIn (h .resources) f
 unfolding bandedIn readAfter readBody bodyDue
 unbanded-same h file m room = rw (no-bands room file (bandsFrom (h .resources)) m .0, no-bands mostBands file (bandsFrom (h .resources)) m .0)
 
--- nor what a call answers
-pub bare-answered : (c : Call) (h : Header) (file out : List ℕ) {r : ℕ} {left : List ℕ} → Bare h file → RowsAnswered c 0 h file out r left → HeaderAnswered c h file out r left
-bare-answered c h file out m e = e ∙ ap (λ (x : Read). afterRead c out x) (unbanded-same h file (m .unbanded) 0)
+-- nor what a call answers, where rows for the tasks are enough
+pub bare-answered : (c : Call) (h : Header) (file out : List ℕ) {r : ℕ} {left : List ℕ} → asksMore h file ≡ false → RowsAnswered c 0 h file out r left → HeaderAnswered c h file out r left
+unfolding asksMore
+bare-answered c h file out m e =
+    let n = or-none (bandedIn (h .resources) file) (and (fillsRows (h .tasks)) (heldIn (h .resources) file)) m in
+    e ∙ ap (λ (x : Read). afterRead c out x) (unbanded-same h file (n .0) 0)
 
 -- ---- the rows that were read have the file's kinds
 pub read-held : (room : ℕ) (h : Header) (file : List ℕ) {f : Frame} {ts : List Task} → readAfter room h file ≡ Read.Plan f ts → someHeld (f .resources) ≡ heldIn (h .resources) file
@@ -84,27 +87,34 @@ read-held room h file {f} {ts} e =
     let frame : frameIn h file ≡ f = cc d in
     sym (ap (λ (g : Frame). someHeld (g .resources)) frame)
 
+-- tasks that fill their rows have no held resource, where rows for them are enough
+filled-unheld : (h : Header) (file : List ℕ) → asksMore h file ≡ false → fillsRows (h .tasks) ≡ true → heldIn (h .resources) file ≡ false
+unfolding asksMore
+filled-unheld h file m f = (rw f at (or-none (bandedIn (h .resources) file) (and (fillsRows (h .tasks)) (heldIn (h .resources) file)) m .1))
+
 -- rows for n tasks have room for the span of a held resource, unless the tasks fill them
-pub room-left : (n : ℕ) (h : Header) (file : List ℕ) → h .tasks ≤ n → (eqb (h .tasks) n ≡ true → heldIn (h .resources) file ≡ false)
+room-left : (n : ℕ) (h : Header) (file : List ℕ) → h .tasks ≤ n → (eqb (h .tasks) n ≡ true → fillsRows (h .tasks) ≡ true) → asksMore h file ≡ false
     → eventsATask * h .tasks + roomIf (heldIn (h .resources) file) ≤ eventsATask * n
-room-left n h file l f =
-    by-cases (eqb (h .tasks) n) (λ e. rw (f e) (omega arith))
+room-left n h file l f m =
+    by-cases (eqb (h .tasks) n) (λ e. rw (filled-unheld h file m (f e)) (omega arith))
     (λ e. let r = room-most (heldIn (h .resources) file) in let m : h .tasks < n = below (h .tasks) n l e in omega arith)
   where
     below : (a b : ℕ) → a ≤ b → eqb a b ≡ false → a < b
     below a b l e = by-cases (ltb a b) (ltb-true a b) (λ g. let m = ltb-false a b g in let same : a ≡ b = omega arith in clash (eqb a b) (eqb-in a b same) e)
 
--- the kind of the resource at the front of the bytes is told by its mark, and by the second byte of that
+module _ (h : Header) (file : List ℕ) where
+  pub small-room : h .tasks ≤ small → asksMore h file ≡ false → eventsATask * h .tasks + roomIf (heldIn (h .resources) file) ≤ eventsATask * small
+  unfolding fillsRows
+  small-room l = room-left small h file l (λ e. or-first (eqb (h .tasks) small) (eqb (h .tasks) middle) e)
+
+  pub middle-room : h .tasks ≤ middle → asksMore h file ≡ false → eventsATask * h .tasks + roomIf (heldIn (h .resources) file) ≤ eventsATask * middle
+  unfolding fillsRows
+  middle-room l = room-left middle h file l (λ e. or-second (eqb (h .tasks) small) (eqb (h .tasks) middle) e)
+
+-- the kind of the resource at the front of the bytes is told by its mark
 kind-told : (bs : List ℕ) → isHeld (kindFrom (dueIn RS bs)) ≡ marked RH bs
 unfolding dueIn
 kind-told bs = by-cases (marked RH bs) (λ e. rw e) (λ e. rw e)
-
-unmarked : (bs : List ℕ) → eqb (getD bs 1 0) 72 ≡ false → marked RH bs ≡ false
-unfolding marked
-unmarked bs e = simp (e, and-off)
-
-second-at : (i : ℕ) (bs : List ℕ) → getD (drop i bs) 1 0 ≡ getD bs (i + 1) 0
-second-at i bs = getD-drop i bs 1 0
 
 -- one record after another: whether one from record k on is held
 unfoldable pub heldFrom : List ℕ → ℕ → ℕ → Bool
@@ -122,12 +132,6 @@ module _ (file : List ℕ) (n : ℕ) where
       let g : bandsFrom k + size RS ≡ bandsFrom (k + 1) = omega arith in
       let f : drop (size RS) (drop (bandsFrom k) file) ≡ drop (bandsFrom (k + 1)) file = drop-drop (size RS) (bandsFrom k) file ∙ ap (λ (i : ℕ). drop i file) g in
       rw (e, kind-told (drop (bandsFrom k) file), f)
-
-  pub held-past : (k : ℕ) → k < n → eqb (getD file (bandsFrom k + 1) 0) 72 ≡ false → heldFrom file n k ≡ heldFrom file n (k + 1)
-  held-past k l e =
-      held-here k l
-      ∙ ap (λ b. or b (heldFrom file n (k + 1)))
-      (unmarked (drop (bandsFrom k) file) (ap (λ (x : ℕ). eqb x 72) (second-at (bandsFrom k) file) ∙ e))
 
   pub held-none : (k : ℕ) → n ≤ k → heldFrom file n k ≡ false
   unfolding heldFrom someHeld recordsIn any

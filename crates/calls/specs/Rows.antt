@@ -2,10 +2,11 @@
 -- call in rows.
 use Prim.Native.Nat.{ℕ, _≤_}
 use mathlib.Core.Path.{_≡_}
-use mathlib.Core.Bool.{Bool, true, false}
+use mathlib.Core.Bool.{Bool}
 use mathlib.Core.List.{List}
 use lib.Dec.{eqb}
 use lib.ListN.{drop}
+use Rattle.integers.specs.Tests.{and, or}
 use Rattle.plan.specs.declared.Call.{Call}
 use Rattle.plan.specs.Tasks.{mostResources, mostBands}
 use Rattle.held.specs.Held.{someHeld}
@@ -35,15 +36,13 @@ middle = 64
 abbrev pub wide : ℕ
 wide = 128
 
--- a plan that fills its rows has no held resource, whose span would need room beyond that of the tasks' events
-pub record Unfull (h : Header) (file : List ℕ) : Type 0 where
-  pub at-small : eqb (h .tasks) small ≡ true → heldIn (h .resources) file ≡ false
-  pub at-middle : eqb (h .tasks) middle ≡ true → heldIn (h .resources) file ≡ false
+-- so many tasks fill the rows that are lent for them: no room is left beyond that of their events
+unfoldable pub fillsRows : ℕ → Bool
+fillsRows n = or (eqb n small) (eqb n middle)
 
--- nor does a band follow the resources: rows for the events of its tasks are enough
-pub record Bare (h : Header) (file : List ℕ) : Type 0 where
-  pub unbanded : bandedIn (h .resources) file ≡ false
-  pub unfull : Unfull h file
+-- rows for the events of the tasks are not enough: a band follows the resources, or one of these is held, whose span needs room as well
+unfoldable pub asksMore : Header → List ℕ → Bool
+asksMore h file = or (bandedIn (h .resources) file) (and (fillsRows (h .tasks)) (heldIn (h .resources) file))
 
 -- ---- what a call promises once the header was read
 -- of a file whose header was read, in rows for so many bands

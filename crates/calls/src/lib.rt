@@ -10,7 +10,7 @@ ghost use Rattle.passes.specs.Ready.{Ready};
 ghost use Rattle.held.specs.Held.{heldEvents, roomIf};
 ghost use Rattle.format.specs.Format.{fileLength};
 ghost use Rattle.answers.specs.Files.{fileResult, lentDue, planFile, fileCall};
-ghost use Rattle.calls.specs.Rows.{Counted, bandedIn, heldIn, Unfull, Bare, small, middle, wide, RowsAnswered, HeaderAnswered};
+ghost use Rattle.calls.specs.Rows.{Counted, bandedIn, heldIn, fillsRows, asksMore, small, middle, wide, RowsAnswered, HeaderAnswered};
 use cursor::Cursor;
 use events::EVENTS_A_TASK;
 use format::Header;
@@ -167,8 +167,7 @@ pub const SMALL_SPARE: usize = SMALL_KEYS / 2;
 pub const SMALL_STRETCHES: usize = SMALL_KEYS + 1;
 
 fn apply_small(c: Call, file: &[u8], h: Header, out: &mut [u8]) -> u64
-    requires { ⌜ Counted h small ⌝ }
-    requires { ⌜ Unfull h (now file) ⌝ }
+    requires { ⌜ Counted h small × (asksMore h (now file) ≡ false) ⌝ }
     ensures { λ r. ⌜ RowsAnswered c 0 h (now (file .entry)) (now (out .entry)) r (now (out .exit)) ⌝ }
 {
     let resource = [0i64; RESOURCE_CELLS];
@@ -201,8 +200,7 @@ pub const MIDDLE_SPARE: usize = MIDDLE_KEYS / 2;
 pub const MIDDLE_STRETCHES: usize = MIDDLE_KEYS + 1;
 
 fn apply_middle(c: Call, file: &[u8], h: Header, out: &mut [u8]) -> u64
-    requires { ⌜ Counted h middle ⌝ }
-    requires { ⌜ Unfull h (now file) ⌝ }
+    requires { ⌜ Counted h middle × (asksMore h (now file) ≡ false) ⌝ }
     ensures { λ r. ⌜ RowsAnswered c 0 h (now (file .entry)) (now (out .entry)) r (now (out .exit)) ⌝ }
 {
     let resource = [0i64; RESOURCE_CELLS];
@@ -412,19 +410,17 @@ fn has_bands(file: &[u8], resources: usize) -> bool
     first.stands_before(Mark::LB, file)
 }
 
-// Whether the record of one of so many resources has the second mark byte of RH: it says no only where none is held, and yes of a file that ends
-// before their end.
+// Whether one of so many resources is held.
 fn has_held(file: &[u8], resources: usize) -> bool
     requires { ⌜ resources ≤ mostResources ⌝ }
-    ensures { λ r. ⌜ (r ≡ false → heldIn resources (now (file .entry)) ≡ false) ⌝ }
+    ensures { λ r. ⌜ r ≡ heldIn resources (now (file .entry)) ⌝ }
 {
-    if file.len() < table::bands_from(resources) {
-        return true;
-    }
     let mut k: usize = 0;
     while k < resources {
-        let second = table::bands_from(k) + 1;
-        if file[second] == b'H' {
+        let next = Cursor {
+            at: table::bands_from(k),
+        };
+        if next.stands_before(Mark::RH, file) {
             return true;
         }
         k += 1;
@@ -432,21 +428,19 @@ fn has_held(file: &[u8], resources: usize) -> bool
     false
 }
 
-// Whether rows for the events of the tasks may not be enough: for bands, or, where the tasks fill them, for a held resource's span.
+// Whether so many tasks fill the rows that are lent for them.
+fn fills_rows(tasks: usize) -> bool
+    ensures { λ r. ⌜ r ≡ fillsRows tasks ⌝ }
+{
+    tasks == SMALL || tasks == MIDDLE
+}
+
+// Whether rows for the events of the tasks are not enough: for bands, or, where the tasks fill them, for a held resource's span.
 fn asks_more(file: &[u8], h: Header) -> bool
     requires { ⌜ h .resources ≤ mostResources ⌝ }
-    ensures { λ r. ⌜ (r ≡ false → Bare h (now (file .entry))) ⌝ }
+    ensures { λ r. ⌜ r ≡ asksMore h (now (file .entry)) ⌝ }
 {
-    if has_bands(file, h.resources) {
-        return true;
-    }
-    if h.tasks == SMALL {
-        return has_held(file, h.resources);
-    }
-    if h.tasks == MIDDLE {
-        return has_held(file, h.resources);
-    }
-    false
+    has_bands(file, h.resources) || fills_rows(h.tasks) && has_held(file, h.resources)
 }
 
 // Larger rows, for at least as many tasks as the header counts, or rows for bands and a held resource's span. It is called from two places, each with a number that the
@@ -467,8 +461,7 @@ fn apply_more(c: Call, least: usize, file: &[u8], h: Header, out: &mut [u8]) -> 
 
 // Rows for few tasks, where no band follows the resources; with room for a held resource's span where there is one.
 fn apply_few(c: Call, file: &[u8], h: Header, out: &mut [u8]) -> u64
-    requires { ⌜ Counted h middle ⌝ }
-    requires { ⌜ Unfull h (now file) ⌝ }
+    requires { ⌜ Counted h middle × (asksMore h (now file) ≡ false) ⌝ }
     ensures { λ r. ⌜ RowsAnswered c 0 h (now (file .entry)) (now (out .entry)) r (now (out .exit)) ⌝ }
 {
     if h.tasks <= SMALL {

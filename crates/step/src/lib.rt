@@ -3,10 +3,10 @@
 // that is not passed over the searches of narrow.
 ghost use mathlib.Core.Path.{_≡_};
 ghost use Prim.Native.Nat.{_+_, _<_};
-ghost use lib.ListN.{length};
+ghost use lib.ListN.{length, getD};
 ghost use Rattle.integers.specs.Lists.{Each};
 ghost use Rattle.plan.specs.Sets.{setBits};
-ghost use Rattle.plan.specs.Tasks.{Bounded, TaskFits};
+ghost use Rattle.plan.specs.Tasks.{noTask, Bounded, TaskFits};
 ghost use Rattle.rules.specs.Frame.{limitFrom, isHeld, floor};
 ghost use Rattle.rules.specs.Step.{atLeastStep};
 ghost use Rattle.rows.specs.View.{tasksOf, bandsOf};
@@ -69,11 +69,13 @@ fn can_be_barred(t: Task, slack: Power) -> bool
     slack.below(stretches::bar_of(t)) && idle::is_lively(t)
 }
 
-// Whether the task may stand on r and some stretch could touch it.
-fn asks_more(t: Task, r: u64, l: Least) -> bool
-    requires { ⌜ (r < setBits) × Bounded t ⌝ }
-    ensures { λ b. ⌜ b ≡ asksMore r t l ⌝ }
+// Whether task i may stand on r and some stretch could touch it. It is given by its place, so that of a task that is passed over only what is asked
+// for is fetched (docs/DECISIONS.md, 76).
+fn asks_more(s: &[TaskRow], i: usize, r: u64, l: Least) -> bool
+    requires { ⌜ (i < length (now s)) × (r < setBits) × Bounded (getD (tasksOf (now s)) i noTask) ⌝ }
+    ensures { λ b. ⌜ b ≡ asksMore r (getD (tasksOf (now (s .entry))) i noTask) l ⌝ }
 {
+    let t = rows::task_at(s, i);
     let tight = l.tight;
     plan::has_resource(t.set, r)
         && (can_be_barred(t, l.slack) || tight.below(stretches::lift_of(t)))
@@ -91,8 +93,8 @@ fn narrow_all(s: &mut [TaskRow], r: u64, ss: &[StretchRow]) -> Stepped
     let mut touched: u64 = 0;
     let mut i: usize = 0;
     while i < s.len() {
-        let t = rows::task_at(s, i);
-        if asks_more(t, r, l) {
+        if asks_more(s, i, r, l) {
+            let t = rows::task_at(s, i);
             match narrow::narrow(ss, t, r) {
                 Narrowed::Kept(u) => {
                     touched = rows::put_changed(s, i, u, touched);

@@ -1,6 +1,8 @@
 -- Small rows where no band follows the resources and they have room; a file that is cut short is refused in any.
+use mathlib.Core.Path.{_≡_, sym, _∙_}
+use mathlib.Core.Bool.{false}
 use Rattle.integers.proofs.Tests.{not-out}
-use Rattle.calls.specs.Rows.{Bare}
+use Rattle.calls.specs.Rows.{asksMore}
 use Rattle.calls.proofs.Files.{bare-answered}
 use borrow.Author.Needs.{needs}
 use Rattle.calls.proofs.apply_counted.Statement.{statement}
@@ -9,12 +11,12 @@ use Rattle.calls.proofs.apply_counted.Tie as tie
 asks-more-requires : tie.Need-asks-more-requires
 asks-more-requires c κs = search needs
 
--- no band follows, and there is room for a held resource's span, if there is one
-bare : (t : tie.Then2) → Bare (t .before .before .before .before .before .before .args .h) (t .before .before .before .before .before .before .args .file .now)
-bare t = t .before .asks-more .ensures (not-out (t .before .asks-more .result) (t .if2 .taken))
+-- rows for the tasks are enough
+bare : (t : tie.Then2) → asksMore (t .before .before .before .before .before .before .args .h) (t .before .before .before .before .before .before .args .file .now) ≡ false
+bare t = sym (t .before .asks-more .ensures) ∙ not-out (t .before .asks-more .result) (t .if2 .taken)
 
 apply-few-requires : tie.Need-apply-few-requires
-apply-few-requires c κs = (search needs, bare (c .before) .unfull)
+apply-few-requires c κs = (search needs, bare (c .before))
 
 same-length : tie.Need-same-length
 same-length c = search needs

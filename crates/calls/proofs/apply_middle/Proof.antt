@@ -1,7 +1,6 @@
 -- Rows for so many tasks, with room for their events, and for a held resource's span where they do not fill them.
 use native.Mathlib.Omega.{arith}
-use Rattle.calls.specs.Rows.{middle}
-use Rattle.calls.proofs.Files.{room-left}
+use Rattle.calls.proofs.Files.{middle-room}
 use borrow.Author.Needs.{needs}
 use Rattle.calls.proofs.apply_middle.Statement.{statement}
 use Rattle.calls.proofs.apply_middle.Tie as tie
@@ -24,7 +23,7 @@ slice-aggregate-apply-unbanded-5 c = search needs
 apply-unbanded-requires : tie.Need-apply-unbanded-requires
 apply-unbanded-requires c κs =
     let a = c .before .before .before .before .before .before .before .before in
-    (search needs, omega (arith, room-left middle (a .args .h) (a .args .file .now) (a .pre .0 .1) (a .pre .1 .at-middle)))
+    (search needs, omega (arith, middle-room (a .args .h) (a .args .file .now) (a .pre .0 .1) (a .pre .1)))
 
 same-length : tie.Need-same-length
 same-length c = search needs

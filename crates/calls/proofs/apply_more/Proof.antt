@@ -1,14 +1,16 @@
 -- Rows with bands where one follows the resources or a resource is held; else larger rows without.
 use native.Mathlib.Omega.{arith}
-use Rattle.calls.specs.Rows.{Bare}
+use mathlib.Core.Path.{_≡_, sym, _∙_}
+use mathlib.Core.Bool.{false}
+use Rattle.calls.specs.Rows.{asksMore}
 use Rattle.calls.proofs.Files.{bare-answered}
 use borrow.Author.Needs.{needs}
 use Rattle.calls.proofs.apply_more.Statement.{statement}
 use Rattle.calls.proofs.apply_more.Tie as tie
 
--- no band follows
-none : (c : tie.Else1) → Bare (c .before .before .before .before .args .h) (c .before .before .before .before .args .file .now)
-none c = c .before .asks-more .ensures (c .if1 .left)
+-- rows for the tasks are enough
+none : (c : tie.Else1) → asksMore (c .before .before .before .before .args .h) (c .before .before .before .before .args .file .now) ≡ false
+none c = sym (c .before .asks-more .ensures) ∙ c .if1 .left
 
 asks-more-requires : tie.Need-asks-more-requires
 asks-more-requires c κs = search needs

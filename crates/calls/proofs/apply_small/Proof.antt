@@ -1,7 +1,6 @@
 -- Rows for so many tasks, with room for their events, and for a held resource's span where they do not fill them.
 use native.Mathlib.Omega.{arith}
-use Rattle.calls.specs.Rows.{small}
-use Rattle.calls.proofs.Files.{room-left}
+use Rattle.calls.proofs.Files.{small-room}
 use borrow.Author.Needs.{needs}
 use Rattle.calls.proofs.apply_small.Statement.{statement}
 use Rattle.calls.proofs.apply_small.Tie as tie
@@ -24,7 +23,7 @@ slice-aggregate-apply-unbanded-5 c = search needs
 apply-unbanded-requires : tie.Need-apply-unbanded-requires
 apply-unbanded-requires c κs =
     let a = c .before .before .before .before .before .before .before .before in
-    (search needs, omega (arith, room-left small (a .args .h) (a .args .file .now) (a .pre .0 .1) (a .pre .1 .at-small)))
+    (search needs, omega (arith, small-room (a .args .h) (a .args .file .now) (a .pre .0 .1) (a .pre .1)))
 
 same-length : tie.Need-same-length
 same-length c = search needs
