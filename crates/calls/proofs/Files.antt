@@ -10,7 +10,7 @@ use lib.ListN.{length, drop}
 use lib.Seq.{drop-drop}
 use borrow.Author.Tests.{not-false, ltb-true, ltb-false}
 use Rattle.integers.specs.Tests.{and, or, any}
-use Rattle.integers.proofs.Tests.{clash, by-cases, or-first, or-second, or-none}
+use Rattle.integers.proofs.Tests.{clash, by-cases, or-none}
 use Rattle.plan.specs.declared.Call.{Call}
 use Rattle.plan.specs.declared.Checked.{Checked}
 use Rattle.plan.specs.declared.Checked.the-variants.{Accepted}
@@ -31,12 +31,12 @@ use Rattle.format.specs.Format.{marked, dueIn, kindFrom, size, resources, resou
 use Rattle.format.specs.Reading.{Read, recordsIn, frameIn, tasksIn, bodyDue, readBody, readAfter}
 use Rattle.format.specs.Writing.{written, roomFor}
 use Rattle.format.proofs.Files.{rows-written, read-is, after-is}
-use Rattle.plan.proofs.Sets.{eqb-in}
+use Rattle.plan.proofs.Sets.{eqb-in, eqb-true}
 use Rattle.events.specs.Events.{eventsATask}
 use Rattle.held.specs.Held.{roomIf, someHeld}
 use Rattle.held.proofs.Room.{room-most}
 use Rattle.runs.proofs.Rooms.{no-bands}
-use Rattle.calls.specs.Rows.{bandedIn, heldIn, small, middle, fillsRows, asksMore, RowsAnswered, HeaderAnswered}
+use Rattle.calls.specs.Rows.{bandedIn, heldIn, fillsRows, asksMore, RowsAnswered, HeaderAnswered}
 use Rattle.answers.specs.Files.{answerFile, afterRead, lentDue, planCall, planFile, refusedFile}
 
 -- ---- each refusal in its turn
@@ -93,23 +93,14 @@ unfolding asksMore
 filled-unheld h file m f = (rw f at (or-none (bandedIn (h .resources) file) (and (fillsRows (h .tasks)) (heldIn (h .resources) file)) m .1))
 
 -- rows for n tasks have room for the span of a held resource, unless the tasks fill them
-room-left : (n : ℕ) (h : Header) (file : List ℕ) → h .tasks ≤ n → (eqb (h .tasks) n ≡ true → fillsRows (h .tasks) ≡ true) → asksMore h file ≡ false
+pub room-left : (n : ℕ) (h : Header) (file : List ℕ) → fillsRows n ≡ true → h .tasks ≤ n → asksMore h file ≡ false
     → eventsATask * h .tasks + roomIf (heldIn (h .resources) file) ≤ eventsATask * n
-room-left n h file l f m =
-    by-cases (eqb (h .tasks) n) (λ e. rw (filled-unheld h file m (f e)) (omega arith))
+room-left n h file f l m =
+    by-cases (eqb (h .tasks) n) (λ e. rw (filled-unheld h file m (ap fillsRows (eqb-true (h .tasks) n e) ∙ f)) (omega arith))
     (λ e. let r = room-most (heldIn (h .resources) file) in let m : h .tasks < n = below (h .tasks) n l e in omega arith)
   where
     below : (a b : ℕ) → a ≤ b → eqb a b ≡ false → a < b
     below a b l e = by-cases (ltb a b) (ltb-true a b) (λ g. let m = ltb-false a b g in let same : a ≡ b = omega arith in clash (eqb a b) (eqb-in a b same) e)
-
-module _ (h : Header) (file : List ℕ) where
-  pub small-room : h .tasks ≤ small → asksMore h file ≡ false → eventsATask * h .tasks + roomIf (heldIn (h .resources) file) ≤ eventsATask * small
-  unfolding fillsRows
-  small-room l = room-left small h file l (λ e. or-first (eqb (h .tasks) small) (eqb (h .tasks) middle) e)
-
-  pub middle-room : h .tasks ≤ middle → asksMore h file ≡ false → eventsATask * h .tasks + roomIf (heldIn (h .resources) file) ≤ eventsATask * middle
-  unfolding fillsRows
-  middle-room l = room-left middle h file l (λ e. or-second (eqb (h .tasks) small) (eqb (h .tasks) middle) e)
 
 -- the kind of the resource at the front of the bytes is told by its mark
 kind-told : (bs : List ℕ) → isHeld (kindFrom (dueIn RS bs)) ≡ marked RH bs

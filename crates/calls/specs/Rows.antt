@@ -2,7 +2,7 @@
 -- call in rows.
 use Prim.Native.Nat.{ℕ, _≤_}
 use mathlib.Core.Path.{_≡_}
-use mathlib.Core.Bool.{Bool}
+use mathlib.Core.Bool.{Bool, false}
 use mathlib.Core.List.{List}
 use lib.Dec.{eqb}
 use lib.ListN.{drop}
@@ -36,13 +36,17 @@ middle = 64
 abbrev pub wide : ℕ
 wide = 128
 
--- so many tasks fill the rows that are lent for them: no room is left beyond that of their events
+-- so many tasks fill the rows that are lent for them: no room is left beyond that of their events. Rows for the most tasks have some in any case.
 unfoldable pub fillsRows : ℕ → Bool
-fillsRows n = or (eqb n small) (eqb n middle)
+fillsRows n = or (eqb n small) (or (eqb n middle) (eqb n wide))
 
 -- rows for the events of the tasks are not enough: a band follows the resources, or one of these is held, whose span needs room as well
 unfoldable pub asksMore : Header → List ℕ → Bool
 asksMore h file = or (bandedIn (h .resources) file) (and (fillsRows (h .tasks)) (heldIn (h .resources) file))
+
+-- rows for the events of so many tasks are enough
+abbrev pub Enough : Header → List ℕ → ℕ → Type 0
+Enough h file n = Counted h n × (asksMore h file ≡ false)
 
 -- ---- what a call promises once the header was read
 -- of a file whose header was read, in rows for so many bands

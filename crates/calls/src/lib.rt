@@ -1,6 +1,5 @@
 // Calls on a plan file in memory that write, each with one number as its answer: what the functions for other languages do.
 ghost use mathlib.Core.Path.{_≡_};
-ghost use mathlib.Core.Bool.{false};
 ghost use Prim.Native.Nat.{_+_, _≤_};
 ghost use lib.ListN.{length};
 ghost use Rattle.plan.specs.Tasks.{mostResources, mostBands, mostTasks};
@@ -10,7 +9,7 @@ ghost use Rattle.passes.specs.Ready.{Ready};
 ghost use Rattle.held.specs.Held.{heldEvents, roomIf};
 ghost use Rattle.format.specs.Format.{fileLength};
 ghost use Rattle.answers.specs.Files.{fileResult, lentDue, planFile, fileCall};
-ghost use Rattle.calls.specs.Rows.{Counted, bandedIn, heldIn, fillsRows, asksMore, small, middle, wide, RowsAnswered, HeaderAnswered};
+ghost use Rattle.calls.specs.Rows.{Counted, bandedIn, heldIn, fillsRows, asksMore, Enough, small, middle, wide, RowsAnswered, HeaderAnswered};
 use cursor::Cursor;
 use events::EVENTS_A_TASK;
 use format::Header;
@@ -167,7 +166,7 @@ pub const SMALL_SPARE: usize = SMALL_KEYS / 2;
 pub const SMALL_STRETCHES: usize = SMALL_KEYS + 1;
 
 fn apply_small(c: Call, file: &[u8], h: Header, out: &mut [u8]) -> u64
-    requires { ⌜ Counted h small × (asksMore h (now file) ≡ false) ⌝ }
+    requires { ⌜ Enough h (now file) small ⌝ }
     ensures { λ r. ⌜ RowsAnswered c 0 h (now (file .entry)) (now (out .entry)) r (now (out .exit)) ⌝ }
 {
     let resource = [0i64; RESOURCE_CELLS];
@@ -200,7 +199,7 @@ pub const MIDDLE_SPARE: usize = MIDDLE_KEYS / 2;
 pub const MIDDLE_STRETCHES: usize = MIDDLE_KEYS + 1;
 
 fn apply_middle(c: Call, file: &[u8], h: Header, out: &mut [u8]) -> u64
-    requires { ⌜ Counted h middle × (asksMore h (now file) ≡ false) ⌝ }
+    requires { ⌜ Enough h (now file) middle ⌝ }
     ensures { λ r. ⌜ RowsAnswered c 0 h (now (file .entry)) (now (out .entry)) r (now (out .exit)) ⌝ }
 {
     let resource = [0i64; RESOURCE_CELLS];
@@ -226,14 +225,14 @@ fn apply_middle(c: Call, file: &[u8], h: Header, out: &mut [u8]) -> u64
 
 pub const WIDE: usize = 128;
 
-pub const WIDE_KEYS: usize = WIDE * EVENTS_A_TASK + HELD_EVENTS;
+pub const WIDE_KEYS: usize = WIDE * EVENTS_A_TASK;
 
 pub const WIDE_SPARE: usize = WIDE_KEYS / 2;
 
 pub const WIDE_STRETCHES: usize = WIDE_KEYS + 1;
 
 fn apply_wide(c: Call, file: &[u8], h: Header, out: &mut [u8]) -> u64
-    requires { ⌜ Counted h wide ⌝ }
+    requires { ⌜ Enough h (now file) wide ⌝ }
     ensures { λ r. ⌜ RowsAnswered c 0 h (now (file .entry)) (now (out .entry)) r (now (out .exit)) ⌝ }
 {
     let resource = [0i64; RESOURCE_CELLS];
@@ -432,7 +431,7 @@ fn has_held(file: &[u8], resources: usize) -> bool
 fn fills_rows(tasks: usize) -> bool
     ensures { λ r. ⌜ r ≡ fillsRows tasks ⌝ }
 {
-    tasks == SMALL || tasks == MIDDLE
+    tasks == SMALL || (tasks == MIDDLE || tasks == WIDE)
 }
 
 // Whether rows for the events of the tasks are not enough: for bands, or, where the tasks fill them, for a held resource's span.
@@ -443,9 +442,9 @@ fn asks_more(file: &[u8], h: Header) -> bool
     has_bands(file, h.resources) || fills_rows(h.tasks) && has_held(file, h.resources)
 }
 
-// Larger rows, for at least as many tasks as the header counts, or rows for bands and a held resource's span. It is called from two places, each with a number that the
-// compiler can't know, so that these rows, 68 KB for the most, stay out of the frame of every smaller call: each call touches its whole frame,
-// page by page.
+// Larger rows, for at least as many tasks as the header counts, or rows for bands and a held resource's span. It is called from two places, each with
+// a number that the compiler can't know, so that these rows, 68 KB for the most, stay out of the frame of every smaller call: each call touches its
+// whole frame, page by page.
 fn apply_more(c: Call, least: usize, file: &[u8], h: Header, out: &mut [u8]) -> u64
     requires { ⌜ Counted h mostTasks × (h .tasks ≤ least) ⌝ }
     ensures { λ r. ⌜ HeaderAnswered c h (now (file .entry)) (now (out .entry)) r (now (out .exit)) ⌝ }
@@ -459,9 +458,9 @@ fn apply_more(c: Call, least: usize, file: &[u8], h: Header, out: &mut [u8]) -> 
     apply_large(c, file, h, out)
 }
 
-// Rows for few tasks, where no band follows the resources; with room for a held resource's span where there is one.
+// Rows for few tasks, where those for their events are enough.
 fn apply_few(c: Call, file: &[u8], h: Header, out: &mut [u8]) -> u64
-    requires { ⌜ Counted h middle × (asksMore h (now file) ≡ false) ⌝ }
+    requires { ⌜ Enough h (now file) middle ⌝ }
     ensures { λ r. ⌜ RowsAnswered c 0 h (now (file .entry)) (now (out .entry)) r (now (out .exit)) ⌝ }
 {
     if h.tasks <= SMALL {

@@ -10,19 +10,16 @@ ghost use Rattle.plan.specs.Powers.{powersOf};
 ghost use Rattle.format.specs.Numbers.{bytesOf, numberAt, signedOf, unsignedOf};
 ghost use Rattle.format.specs.Format.{daysFrom, powersFrom};
 ghost use Rattle.format.specs.Writing.{Small, rangeStored};
+use integers::WHOLE;
 use plan::Day;
 use plan::Power;
 use plan::PowerSpan;
 use plan::Span;
 
-// A byte has so many values, two bytes so many; a number of four bytes from the half on stands for itself less the whole.
+// A byte has so many values, two bytes so many.
 const BYTE: u32 = 1 << 8;
 
 const PAIR: u32 = 1 << 16;
-
-const HALF: u32 = 1 << 31;
-
-const WHOLE: i64 = 1 << 32;
 
 fn wide(b: u8) -> u32
     ensures { λ r. ⌜ r ≡ b ⌝ }
@@ -54,21 +51,11 @@ fn four_at(b: &[u8], at: usize) -> u32
     two_at(b, at) + PAIR * two_at(b, at + 2)
 }
 
-fn signed(x: u32) -> i32
-    ensures { λ r. ⌜ r ≡ signedOf x ⌝ }
-{
-    if x < HALF {
-        x as i32
-    } else {
-        (x as i64 - WHOLE) as i32
-    }
-}
-
 pub fn id_at(b: &[u8], at: usize) -> i32
     requires { ⌜ at + 4 ≤ length (now b) ⌝ }
     ensures { λ r. ⌜ r ≡ signedOf (numberAt (now (b .entry)) 4 at) ⌝ }
 {
-    signed(four_at(b, at))
+    integers::signed(four_at(b, at))
 }
 
 // A signed number of four bytes, in a cell of eight.

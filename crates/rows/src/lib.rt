@@ -4,7 +4,7 @@ ghost use mathlib.Core.Path.{_≡_};
 ghost use Prim.Native.Nat.{_<_};
 ghost use lib.IntN.{pos};
 ghost use mir.Syntax.{w32, w64};
-ghost use mir.Val.{ofZ, toZ};
+ghost use mir.Val.{ofZ};
 ghost use lib.ListN.{length, getD, set};
 ghost use Rattle.integers.specs.Tests.{if};
 ghost use Rattle.plan.specs.Sets.{union};
@@ -12,6 +12,7 @@ ghost use Rattle.plan.specs.Tasks.{noTask, noResource, noBand};
 ghost use Rattle.rules.specs.Settle.{sameRanges, sameTask};
 ghost use Rattle.rows.specs.Changes.{seenBy};
 ghost use Rattle.rows.specs.View.{taskOf, tasksOf, idOf, kindOf, resourceOf, resourcesOf, withLimit, bandOf, bandsOf};
+use integers::WHOLE;
 use plan::Band;
 use plan::Day;
 use plan::Kind;
@@ -118,35 +119,20 @@ pub fn put_task(s: &mut [TaskRow], i: usize, t: Task)
     s[i] = r;
 }
 
-// The first number that takes more than 32 bits, and the first whose 32nd bit is set.
-const WHOLE: i64 = 1 << 32;
-
 const WHOLE_SET: u64 = 1 << 32;
 
-const HALF: u32 = 1 << 31;
-
-// The 32 bits of an identifier as a number, and back.
+// The 32 bits of an identifier as a number.
 fn bits_of(x: i32) -> i64
     ensures { λ r. ⌜ r ≡ pos (ofZ w32 x) ⌝ }
 {
     (set_of(x as i64) % WHOLE_SET) as i64
 }
 
-fn id_in(x: u32) -> i32
-    ensures { λ r. ⌜ r ≡ toZ w32 x ⌝ }
-{
-    if x < HALF {
-        x as i32
-    } else {
-        (x as i64 - WHOLE) as i32
-    }
-}
-
 // A cell's identifier: its low 32 bits, so that every cell has one and nothing is tested.
 fn id_of(x: i64) -> i32
     ensures { λ r. ⌜ r ≡ idOf x ⌝ }
 {
-    id_in((set_of(x) % WHOLE_SET) as u32)
+    integers::signed((set_of(x) % WHOLE_SET) as u32)
 }
 
 // A cell's kind: a held resource's is 2^32 more than a plain one's.

@@ -25,7 +25,7 @@ returns : tie.Need-returns
 returns c = search needs
 
 apply-wide-requires : tie.Need-apply-wide-requires
-apply-wide-requires c κs = (omega arith, omega arith)
+apply-wide-requires c κs = ((omega arith, omega arith), none (c .before .before))
 
 same-length-2 : tie.Need-same-length-2
 same-length-2 c = search needs

@@ -1,7 +1,8 @@
--- Rows for so many tasks, with room for their events and for a held resource's span.
+-- Rows for so many tasks, with room for their events, and for a held resource's span where they do not fill them.
 use native.Mathlib.Omega.{arith}
-use Rattle.held.proofs.Room.{room-most}
-use Rattle.calls.specs.Rows.{heldIn}
+use Rattle.calls.specs.Rows.{wide, fillsRows}
+use Rattle.calls.proofs.Files.{room-left}
+use mathlib.Core.Path.{refl}
 use borrow.Author.Needs.{needs}
 use Rattle.calls.proofs.apply_wide.Statement.{statement}
 use Rattle.calls.proofs.apply_wide.Tie as tie
@@ -22,9 +23,10 @@ slice-aggregate-apply-unbanded-5 : tie.Need-slice-aggregate-apply-unbanded-5
 slice-aggregate-apply-unbanded-5 c = search needs
 
 apply-unbanded-requires : tie.Need-apply-unbanded-requires
+unfolding fillsRows
 apply-unbanded-requires c κs =
     let a = c .before .before .before .before .before .before .before .before in
-    (search needs, omega (arith, a .pre, room-most (heldIn (a .args .h .resources) (a .args .file .now))))
+    (search needs, omega (arith, room-left wide (a .args .h) (a .args .file .now) refl (a .pre .0 .1) (a .pre .1)))
 
 same-length : tie.Need-same-length
 same-length c = search needs

@@ -1,11 +1,10 @@
 -- The mark of each record in turn: where it is not RH, those from the next on tell what all do.
 use native.Mathlib.Omega.{arith}
 use mathlib.Core.Path.{_≡_, sym, ap, _∙_}
-use mathlib.Core.Bool.{Bool, false}
+use mathlib.Core.Bool.{Bool}
 use Prim.Native.Nat.{_+_, _-_, _≤_}
 use lib.ListN.{drop}
 use Rattle.integers.specs.Tests.{or}
-use Rattle.integers.proofs.Tests.{or-yes}
 use Rattle.format.specs.declared.Mark.the-variants.{RH}
 use Rattle.format.specs.Format.{marked, bandsFrom}
 use Rattle.cursor.proofs.Due.{mark-told}

@@ -10,16 +10,16 @@ use Rattle.rows.proofs.id_of.Tie as tie
 set-of-requires : tie.Need-set-of-requires
 set-of-requires c κs = search needs
 
-cast-id-in : tie.Need-cast-id-in
-cast-id-in c = search needs
+cast-signed : tie.Need-cast-signed
+cast-signed c = search needs
 
-id-in-requires : tie.Need-id-in-requires
-id-in-requires c κs = search needs
+signed-requires : tie.Need-signed-requires
+signed-requires c κs = search needs
 
 returns : tie.Need-returns
 unfolding idOf
 returns c =
-    simp (back w32, c .id-in .ok) (simp (c .id-in .ensures, c .before .set-of .ensures, toZ-ofZ (c .before .before .fits .x)))
+    simp (back w32, c .signed .ok) (simp (c .signed .ensures, c .before .set-of .ensures, toZ-ofZ (c .before .before .fits .x)))
 
 pub id-of-spec : {M : Type 1} → statement M
-id-of-spec = tie.close (tie.spec set-of-requires cast-id-in id-in-requires returns)
+id-of-spec = tie.close (tie.spec set-of-requires cast-signed signed-requires returns)

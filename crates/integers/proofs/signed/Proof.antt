@@ -8,8 +8,8 @@ use mir.Syntax.{w32, w64}
 use mir.Val.{toZ, SFits, bits, hbits}
 use mir.Facts.{toZ-ofZ, toZ-pos, sfits-toZ, sfits-widen}
 use borrow.Author.Needs.{needs}
-use Rattle.format.proofs.fields.signed.Statement.{statement}
-use Rattle.format.proofs.fields.signed.Tie as tie
+use Rattle.integers.proofs.signed.Statement.{statement}
+use Rattle.integers.proofs.signed.Tie as tie
 
 -- in the upper half
 upper : (x : ℕ) → 2 ^ hbits w32 ≤ x → x < 2 ^ bits w32 → pos x -ℤ pos (2 ^ bits w32) ≡ toZ w32 x
