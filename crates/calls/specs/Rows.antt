@@ -40,7 +40,8 @@ wide = 128
 unfoldable pub fillsRows : ℕ → Bool
 fillsRows n = or (eqb n small) (or (eqb n middle) (eqb n wide))
 
--- rows for the events of the tasks are not enough: a band follows the resources, or one of these is held, whose span needs room as well
+-- rows for the events of the tasks are not enough: a band follows the resources, or, where the tasks fill the rows, one of these is held, whose span
+-- needs room as well
 unfoldable pub asksMore : Header → List ℕ → Bool
 asksMore h file = or (bandedIn (h .resources) file) (and (fillsRows (h .tasks)) (heldIn (h .resources) file))
 

@@ -1,5 +1,5 @@
--- An event as one number, a key: a day, a change of power from that day on, a change of the count of sure tasks, each counted from the least
--- that a key holds. Keys rise with the day.
+-- An event as one number, a key: a day, a change of power from that day on, a change of the count of what makes a day count, sure
+-- tasks and a held resource's span, each counted from the least that a key holds. Keys rise with the day.
 use Prim.Native.Nat.{ℕ, _+_, _*_, _/_, _%_, _^_}
 use lib.IntN.{ℤ, pos, negsuc, _+ℤ_, _-ℤ_, natAbs}
 use Rattle.integers.specs.Hull.{Range, range}
@@ -15,7 +15,7 @@ count n = record { 0 = n }
 abbrev pub changeEnds : Range
 changeEnds = range (powerLow -ℤ powerHigh) (powerHigh -ℤ powerLow)
 
--- a change of the count: one sure task less, or one more
+-- a change of the count: one sure task or span less, or one more
 abbrev pub countEnds : Range
 countEnds = range (negsuc 0) (pos 1)
 

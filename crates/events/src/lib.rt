@@ -20,7 +20,7 @@ use plan::Power;
 use plan::Task;
 use rows::TaskRow;
 
-// A number of tasks, or a change of it.
+// How many things make a day count, sure tasks or a held resource's span, or a change of that number.
 pub struct Count(pub i64);
 
 impl Count {

@@ -46,9 +46,9 @@ module _ (file : List ℕ) (bytes : AllBytes file) (f : Frame) (ts : List Task) 
   read-written e = accepted-written e .1
 
 -- ---- "Files without LB keep their bytes."
-pub plain-written : (sense : Sense) (qs : List Resource) (ts : List Task) → written (unbanded sense qs) ts ≡ recordBytes PL (headerNumbers (headerOf (unbanded sense qs) (length ts))) ++ (recordsBytes resources qs ++ recordsBytes (tasks (length qs)) ts)
+pub unbanded-written : (sense : Sense) (qs : List Resource) (ts : List Task) → written (unbanded sense qs) ts ≡ recordBytes PL (headerNumbers (headerOf (unbanded sense qs) (length ts))) ++ (recordsBytes resources qs ++ recordsBytes (tasks (length qs)) ts)
 unfolding written recordsBytes
-plain-written sense qs ts = refl
+unbanded-written sense qs ts = refl
 
 -- ---- lists of so many places
 -- what was due for one band list is due for every other that has room

@@ -36,7 +36,7 @@ spanOver r e (t ∷ ts) = spanOver r (withOnly r e t) ts
 abbrev pub spanChange : Span → Change
 spanChange e = change (e .low .0) (e .high .0) (pos 0) (pos 1)
 
--- its two keys, where it has a day: room for them is asked for where a resource is held, and nowhere else
+-- its two keys, where it has a day: a step asks for room for them where its resource is held, and nowhere else
 abbrev pub heldEvents : ℕ
 heldEvents = 2
 

@@ -1,4 +1,4 @@
--- A task that can be sure, or that a bar can touch: "origin high <= i < end low" on some day, or one resource only.
+-- A task that can be sure or hold a day, or that a bar can touch: "origin high <= i < end low" on some day, or one resource only.
 use mathlib.Core.Bool.{Bool}
 use lib.Signed.{ltZ}
 use Rattle.integers.specs.Tests.{or}

@@ -32,7 +32,7 @@ pub fn no_steps() -> Passed
     }
 }
 
-// Whether the task can be sure, or be touched by a bar: it has a day on which it is under way wherever it starts, or one resource only.
+// Whether the task can be sure, hold a day or be touched by a bar: it has a day on which it is under way wherever it starts, or one resource only.
 pub fn is_lively(t: Task) -> bool
     ensures { λ b. ⌜ b ≡ lively t ⌝ }
 {

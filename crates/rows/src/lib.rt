@@ -42,7 +42,7 @@ const ALL_BITS: u64 = 0xffff_ffff_ffff_ffff;
 
 const TOP_BIT: u64 = 1 << 63;
 
-// A cell as a number of 64 bits (a set, a place), and back: the same bits.
+// A cell as a number of 64 bits (a set, a place, an identifier with its kind), and back: the same bits.
 fn set_of(x: i64) -> u64
     ensures { λ r. ⌜ r ≡ ofZ w64 x ⌝ }
 {
@@ -119,20 +119,21 @@ pub fn put_task(s: &mut [TaskRow], i: usize, t: Task)
     s[i] = r;
 }
 
-const WHOLE_SET: u64 = 1 << 32;
+// How many identifiers there are: a cell's identifier is its remainder by this.
+const IDENTIFIERS: u64 = 1 << 32;
 
 // The 32 bits of an identifier as a number.
 fn bits_of(x: i32) -> i64
     ensures { λ r. ⌜ r ≡ pos (ofZ w32 x) ⌝ }
 {
-    (set_of(x as i64) % WHOLE_SET) as i64
+    (set_of(x as i64) % IDENTIFIERS) as i64
 }
 
 // A cell's identifier: its low 32 bits, so that every cell has one and nothing is tested.
 fn id_of(x: i64) -> i32
     ensures { λ r. ⌜ r ≡ idOf x ⌝ }
 {
-    integers::signed((set_of(x) % WHOLE_SET) as u32)
+    integers::signed((set_of(x) % IDENTIFIERS) as u32)
 }
 
 // A cell's kind: a held resource's is 2^32 more than a plain one's.

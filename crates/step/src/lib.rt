@@ -70,7 +70,7 @@ fn can_be_barred(t: Task, slack: Power) -> bool
 }
 
 // Whether task i may stand on r and some stretch could touch it. It is given by its place, so that of a task that is passed over only what is asked
-// for is fetched (docs/DECISIONS.md, 76).
+// for is fetched (docs/DECISIONS.md, 75).
 fn asks_more(s: &[TaskRow], i: usize, r: u64, l: Least) -> bool
     requires { ⌜ (i < length (now s)) × (r < setBits) × Bounded (getD (tasksOf (now s)) i noTask) ⌝ }
     ensures { λ b. ⌜ b ≡ asksMore r (getD (tasksOf (now (s .entry))) i noTask) l ⌝ }

@@ -27,8 +27,9 @@ pub const KINDS: u64 = VALID_KINDS + DAMAGED;
 const BANDED_PERCENT: i64 = 45;
 /// Of the valid plans but for the longest so many in a hundred are made so that held days count.
 const HELD_PERCENT: i64 = 20;
-/// Of the other valid plans so many in a hundred are given held resources.
+/// Of the other valid plans so many in a hundred are given held resources, and of those with many tasks.
 const GIVEN_HELD_PERCENT: i64 = 22;
+const MANY_GIVEN_HELD_PERCENT: i64 = 50;
 
 const AT_ENDS: u64 = 15;
 const LARGE: u64 = 16;
@@ -50,7 +51,12 @@ pub fn plan_file(seed: u64, n: u64) -> Vec<u8> {
     }
     let kinds = &mut random.aside(Aside::Kinds);
     let held = held_plan(kinds, kind, turn);
-    let is_given = held.is_none() && kinds.within(0, 99) < GIVEN_HELD_PERCENT;
+    let percent = if kind == LARGE {
+        MANY_GIVEN_HELD_PERCENT
+    } else {
+        GIVEN_HELD_PERCENT
+    };
+    let is_given = held.is_none() && kinds.within(0, 99) < percent;
     let plan = held.unwrap_or_else(|| valid_plan(random, kind, turn));
     let mut plan = parts::varied(random, plan);
     let aside = &mut random.aside(Aside::Bands);

@@ -242,9 +242,12 @@ pub fn low_limits(random: &mut Random) -> Plan {
     plan
 }
 
+/// Powers of two, each twice, and what is next to them: a program may change its way of working there.
+const NEAR_POWERS: [usize; 12] = [15, 16, 16, 17, 63, 64, 64, 65, 127, 128, 128, 129];
+
 /// Many tasks, many resources, or both.
 pub fn large(random: &mut Random, turn: u64) -> Plan {
-    let (resources, tasks) = match turn % 5 {
+    let (resources, tasks) = match turn % 6 {
         0 => (MOST_RESOURCES, MOST_TASKS),
         1 => (1, MOST_TASKS),
         2 => (MOST_RESOURCES, random.count(1, 40)),
@@ -252,10 +255,11 @@ pub fn large(random: &mut Random, turn: u64) -> Plan {
             random.count(1, MOST_RESOURCES),
             random.count(100, MOST_TASKS),
         ),
-        _ => (
+        4 => (
             random.count(MOST_RESOURCES / 2 + 1, MOST_RESOURCES),
             random.count(0, 12),
         ),
+        _ => (random.count(1, 4), random.pick(&NEAR_POWERS)),
     };
     if random.one_in(2) && tasks > 0 {
         let size = Size {
