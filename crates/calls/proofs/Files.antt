@@ -94,7 +94,7 @@ filled-unheld h file m f = (rw f at (or-none (bandedIn (h .resources) file) (and
 
 -- rows for n tasks have room for the span of a held resource, unless the tasks fill them
 pub room-left : (n : ℕ) (h : Header) (file : List ℕ) → fillsRows n ≡ true → h .tasks ≤ n → asksMore h file ≡ false
-    → eventsATask * h .tasks + roomIf (heldIn (h .resources) file) ≤ eventsATask * n
+    → eventsATask * h .tasks + roomIf (heldIn (h .resources) file) ≤ eventsATask * n + 0
 room-left n h file f l m =
     by-cases (eqb (h .tasks) n) (λ e. rw (filled-unheld h file m (ap fillsRows (eqb-true (h .tasks) n e) ∙ f)) (omega arith))
     (λ e. let r = room-most (heldIn (h .resources) file) in let m : h .tasks < n = below (h .tasks) n l e in omega arith)

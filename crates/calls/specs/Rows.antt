@@ -1,15 +1,16 @@
 -- For how many tasks rows are lent: the constants SMALL, MIDDLE and WIDE; whether any are for bands and a held resource; and what is promised of a
 -- call in rows.
-use Prim.Native.Nat.{ℕ, _≤_}
+use Prim.Native.Nat.{ℕ, _+_, _*_, _≤_}
 use mathlib.Core.Path.{_≡_}
-use mathlib.Core.Bool.{Bool, false}
+use mathlib.Core.Bool.{Bool}
 use mathlib.Core.List.{List}
 use lib.Dec.{eqb}
 use lib.ListN.{drop}
 use Rattle.integers.specs.Tests.{and, or}
 use Rattle.plan.specs.declared.Call.{Call}
 use Rattle.plan.specs.Tasks.{mostResources, mostBands}
-use Rattle.held.specs.Held.{someHeld}
+use Rattle.events.specs.Events.{eventsATask}
+use Rattle.held.specs.Held.{someHeld, roomIf}
 use Rattle.format.specs.declared.Mark.the-variants.{PL, LB}
 use Rattle.format.specs.Format.{marked, size, resources, bandsFrom}
 use Rattle.format.specs.declared.Header.{Header}
@@ -45,9 +46,10 @@ fillsRows n = or (eqb n small) (or (eqb n middle) (eqb n wide))
 unfoldable pub asksMore : Header → List ℕ → Bool
 asksMore h file = or (bandedIn (h .resources) file) (and (fillsRows (h .tasks)) (heldIn (h .resources) file))
 
--- rows for the events of so many tasks are enough
-abbrev pub Enough : Header → List ℕ → ℕ → Type 0
-Enough h file n = Counted h n × (asksMore h file ≡ false)
+-- rows for so many tasks, with keys for their events and for so many more, are enough: for the tasks that the header counts, and for a held resource's
+-- span where there is one
+abbrev pub Enough : Header → List ℕ → ℕ → ℕ → Type 0
+Enough h file n more = Counted h n × (eventsATask * h .tasks + roomIf (heldIn (h .resources) file) ≤ eventsATask * n + more)
 
 -- ---- what a call promises once the header was read
 -- of a file whose header was read, in rows for so many bands

@@ -1,5 +1,6 @@
 // Calls on a plan file in memory that write, each with one number as its answer: what the functions for other languages do.
 ghost use mathlib.Core.Path.{_≡_};
+ghost use mathlib.Core.Bool.{false};
 ghost use Prim.Native.Nat.{_+_, _≤_};
 ghost use lib.ListN.{length};
 ghost use Rattle.plan.specs.Tasks.{mostResources, mostBands, mostTasks};
@@ -166,7 +167,7 @@ pub const SMALL_SPARE: usize = SMALL_KEYS / 2;
 pub const SMALL_STRETCHES: usize = SMALL_KEYS + 1;
 
 fn apply_small(c: Call, file: &[u8], h: Header, out: &mut [u8]) -> u64
-    requires { ⌜ Enough h (now file) small ⌝ }
+    requires { ⌜ Enough h (now file) small 0 ⌝ }
     ensures { λ r. ⌜ RowsAnswered c 0 h (now (file .entry)) (now (out .entry)) r (now (out .exit)) ⌝ }
 {
     let resource = [0i64; RESOURCE_CELLS];
@@ -199,7 +200,7 @@ pub const MIDDLE_SPARE: usize = MIDDLE_KEYS / 2;
 pub const MIDDLE_STRETCHES: usize = MIDDLE_KEYS + 1;
 
 fn apply_middle(c: Call, file: &[u8], h: Header, out: &mut [u8]) -> u64
-    requires { ⌜ Enough h (now file) middle ⌝ }
+    requires { ⌜ Enough h (now file) middle 0 ⌝ }
     ensures { λ r. ⌜ RowsAnswered c 0 h (now (file .entry)) (now (out .entry)) r (now (out .exit)) ⌝ }
 {
     let resource = [0i64; RESOURCE_CELLS];
@@ -232,7 +233,7 @@ pub const WIDE_SPARE: usize = WIDE_KEYS / 2;
 pub const WIDE_STRETCHES: usize = WIDE_KEYS + 1;
 
 fn apply_wide(c: Call, file: &[u8], h: Header, out: &mut [u8]) -> u64
-    requires { ⌜ Enough h (now file) wide ⌝ }
+    requires { ⌜ Enough h (now file) wide 0 ⌝ }
     ensures { λ r. ⌜ RowsAnswered c 0 h (now (file .entry)) (now (out .entry)) r (now (out .exit)) ⌝ }
 {
     let resource = [0i64; RESOURCE_CELLS];
@@ -263,7 +264,7 @@ pub const LARGE_SPARE: usize = LARGE_KEYS / 2;
 pub const LARGE_STRETCHES: usize = LARGE_KEYS + 1;
 
 fn apply_large(c: Call, file: &[u8], h: Header, out: &mut [u8]) -> u64
-    requires { ⌜ Counted h mostTasks ⌝ }
+    requires { ⌜ Enough h (now file) mostTasks heldEvents ⌝ }
     ensures { λ r. ⌜ RowsAnswered c 0 h (now (file .entry)) (now (out .entry)) r (now (out .exit)) ⌝ }
 {
     let resource = [0i64; RESOURCE_CELLS];
@@ -460,7 +461,7 @@ fn apply_more(c: Call, least: usize, file: &[u8], h: Header, out: &mut [u8]) -> 
 
 // Rows for few tasks, where those for their events are enough.
 fn apply_few(c: Call, file: &[u8], h: Header, out: &mut [u8]) -> u64
-    requires { ⌜ Enough h (now file) middle ⌝ }
+    requires { ⌜ Counted h middle × (asksMore h (now file) ≡ false) ⌝ }
     ensures { λ r. ⌜ RowsAnswered c 0 h (now (file .entry)) (now (out .entry)) r (now (out .exit)) ⌝ }
 {
     if h.tasks <= SMALL {

@@ -1,11 +1,17 @@
 -- Rows for the tasks are enough, whichever they are.
 use native.Mathlib.Omega.{arith}
+use mathlib.Core.Path.{refl}
+use Rattle.calls.specs.Rows.{small, middle, fillsRows}
+use Rattle.calls.proofs.Files.{room-left}
 use borrow.Author.Needs.{needs}
 use Rattle.calls.proofs.apply_few.Statement.{statement}
 use Rattle.calls.proofs.apply_few.Tie as tie
 
 apply-small-requires : tie.Need-apply-small-requires
-apply-small-requires c κs = ((omega arith, omega arith), c .before .before .before .before .before .pre .1)
+unfolding fillsRows
+apply-small-requires c κs =
+    let s = c .before .before .before .before .before in
+    (search needs, room-left small (s .args .h) (s .args .file .now) refl (omega arith) (s .pre .1))
 
 same-length : tie.Need-same-length
 same-length c = search needs
@@ -14,7 +20,10 @@ returns : tie.Need-returns
 returns c = search needs
 
 apply-middle-requires : tie.Need-apply-middle-requires
-apply-middle-requires c κs = c .before .before .before .before .before .pre
+unfolding fillsRows
+apply-middle-requires c κs =
+    let s = c .before .before .before .before .before in
+    (s .pre .0, room-left middle (s .args .h) (s .args .file .now) refl (omega arith) (s .pre .1))
 
 same-length-2 : tie.Need-same-length-2
 same-length-2 c = search needs

@@ -1,9 +1,10 @@
 -- Rows with bands where one follows the resources or a resource is held; else larger rows without.
 use native.Mathlib.Omega.{arith}
-use mathlib.Core.Path.{_≡_, sym, _∙_}
+use mathlib.Core.Path.{_≡_, refl, sym, _∙_}
 use mathlib.Core.Bool.{false}
-use Rattle.calls.specs.Rows.{asksMore}
-use Rattle.calls.proofs.Files.{bare-answered}
+use Rattle.held.proofs.Room.{room-most}
+use Rattle.calls.specs.Rows.{wide, heldIn, fillsRows, asksMore}
+use Rattle.calls.proofs.Files.{room-left, bare-answered}
 use borrow.Author.Needs.{needs}
 use Rattle.calls.proofs.apply_more.Statement.{statement}
 use Rattle.calls.proofs.apply_more.Tie as tie
@@ -25,7 +26,11 @@ returns : tie.Need-returns
 returns c = search needs
 
 apply-wide-requires : tie.Need-apply-wide-requires
-apply-wide-requires c κs = ((omega arith, omega arith), none (c .before .before))
+unfolding fillsRows
+apply-wide-requires c κs =
+    let e = c .before .before in
+    let s = e .before .before .before .before in
+    ((omega arith, omega arith), room-left wide (s .args .h) (s .args .file .now) refl (omega arith) (none e))
 
 same-length-2 : tie.Need-same-length-2
 same-length-2 c = search needs
@@ -36,7 +41,9 @@ returns-2 c =
     bare-answered (s .args .c) (s .args .h) (s .args .file .now) (s .args .out .now) (none (c .before .before .before .before .before)) (c .before .before .apply-wide .ensures)
 
 apply-large-requires : tie.Need-apply-large-requires
-apply-large-requires c κs = (omega arith, omega arith)
+apply-large-requires c κs =
+    let s = c .before .before .before .before .before .before in
+    ((omega arith, omega arith), omega (arith, room-most (heldIn (s .args .h .resources) (s .args .file .now))))
 
 same-length-3 : tie.Need-same-length-3
 same-length-3 c = search needs
