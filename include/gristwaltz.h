@@ -8,27 +8,15 @@
  * each day that a task covers there. RH is a held one: it has to hold on all days from the least origin to one before the greatest end of the
  * tasks placed there, on the bare days between tasks too. A task of duration 0 covers no day and takes part in both ends.
  *
- * Every call answers one number: the refusal number times 2^32 plus the place, or with refusal 7, no plan, plus the reason; or, where the
- * refusal number is 0, a number of passes: those that settling made, or those that it makes at most (0 for every call that has none to tell).
- * A call that is lent an `out` writes on success exactly as many bytes as `file` has to its front; on a refusal the whole of `out` is as it
- * was.
- *
- * The reason why there is no plan is the first in the order of the steps, of the ranges as its step met them, which earlier steps of the call
- * may have narrowed. The lower half of the answer tells it:
- *
- *   2^30 + resource x 2^18 + day + 100,000   a day: the resource at that place in the list can't keep its limit on that day
- *   2^31 + task x 8 + value                  a task: nothing is left of that value of the task at that place, 0 origin, 1 duration, 2 end,
- *                                            3 height, 4 resource set
- *   0                                        none (no call of today gives that)
- *
- * In a resource step a day comes before a task, the earliest day first; then, as in balance, the first task of the list, and of it the first
- * value in that order. The functions at the end take an answer apart.
+ * Every call answers one number: the refusal number times 2^32 plus the place, or, where the refusal number is 0, a number of passes: those
+ * that settling made, or those that it makes at most (0 for every call that has none to tell). A call that is lent an `out` writes on success
+ * exactly as many bytes as `file` has to its front; on a refusal the whole of `out` is as it was.
  *
  * Refusals, in the order in which they are looked for: 8 and 9 of the first record, 1 (over 256 tasks), 2 (no resource, or over 16), 8 and
  * 9 of the other records and of what is left over, with 13 for a 65th band where it is met whole, 3 (an identifier repeats), 4 (a limit outside its
  * ends), 13 (a band out of order, beyond its ends, or of no resource), then for each task in turn 5 (a range) and 6 (its set), then 12 (no such
- * resource), 10 (`out` shorter than the file), 7 (no plan, with its reason). The place is a byte of the file for 8 and 9, a resource for 3
- * and 4, a band for 13, a task for 5 and 6, else 0. */
+ * resource), 10 (`out` shorter than the file), 7 (no plan). The place is a byte of the file for 8 and 9, a resource for 3 and 4, a band for
+ * 13, a task for 5 and 6, else 0. */
 #ifndef GRISTWALTZ_H
 #define GRISTWALTZ_H
 
@@ -75,38 +63,10 @@ uint64_t gristwaltz_resource_step(const uint8_t *file, size_t file_len, size_t p
  * from later, by passes or by settling, whose count then begins anew. (gristwaltz_settle_within makes many passes in one call.) */
 uint64_t gristwaltz_pass(const uint8_t *file, size_t file_len, uint8_t *out, size_t out_len);
 
-/* The refusal that has a reason in place of a place: a step finds no plan. */
-#define GRISTWALTZ_NO_PLAN 7
-
-/* The kinds of reasons. */
-#define GRISTWALTZ_REASON_DAY 1
-#define GRISTWALTZ_REASON_TASK 2
-
-/* An answer taken apart: the refusal number (0: done), the place of a refusal (else 0, and 0 with no plan), the passes that it tells (0 on a
- * refusal). */
+/* An answer taken apart: the refusal number (0: done), the place of a refusal (else 0), the passes that it tells (0 on a refusal). */
 static inline uint32_t gristwaltz_refusal(uint64_t answer) { return (uint32_t)(answer >> 32); }
-static inline uint32_t gristwaltz_place(uint64_t answer) {
-    uint32_t refusal = gristwaltz_refusal(answer);
-    return refusal != 0 && refusal != GRISTWALTZ_NO_PLAN ? (uint32_t)answer : 0;
-}
+static inline uint32_t gristwaltz_place(uint64_t answer) { return gristwaltz_refusal(answer) ? (uint32_t)answer : 0; }
 static inline uint32_t gristwaltz_passes(uint64_t answer) { return gristwaltz_refusal(answer) ? 0 : (uint32_t)answer; }
-
-/* The reason taken apart. Its kind: GRISTWALTZ_REASON_DAY, GRISTWALTZ_REASON_TASK, or 0 for none, as for every answer but refusal 7. The place
- * of the resource (a day) or of the task (a task), else 0. The day, 0 where the reason is no day. The value, 0 to 4, 0 where it is no task. */
-static inline uint32_t gristwaltz_reason(uint64_t answer) {
-    if (gristwaltz_refusal(answer) != GRISTWALTZ_NO_PLAN) return 0;
-    return (answer >> 31 & 1) != 0 ? GRISTWALTZ_REASON_TASK : (answer >> 30 & 1) != 0 ? GRISTWALTZ_REASON_DAY : 0;
-}
-static inline uint32_t gristwaltz_reason_place(uint64_t answer) {
-    uint32_t reason = gristwaltz_reason(answer);
-    return reason == GRISTWALTZ_REASON_DAY ? (uint32_t)(answer >> 18 & 0xfff) : reason == GRISTWALTZ_REASON_TASK ? (uint32_t)(answer >> 3 & 0xfffffff) : 0;
-}
-static inline int32_t gristwaltz_reason_day(uint64_t answer) {
-    return gristwaltz_reason(answer) == GRISTWALTZ_REASON_DAY ? (int32_t)(answer & 0x3ffff) - 100000 : 0;
-}
-static inline uint32_t gristwaltz_reason_value(uint64_t answer) {
-    return gristwaltz_reason(answer) == GRISTWALTZ_REASON_TASK ? (uint32_t)(answer & 7) : 0;
-}
 
 #ifdef __cplusplus
 }

@@ -1,15 +1,10 @@
-# Draws a plan before and after settling, or where it broke, as SVG: a lane for each resource, a row for each task in it.
+# Draws a plan before and after settling as SVG: a lane for each resource, a row for each task in it.
 
 from dataclasses import dataclass
 from xml.sax.saxutils import escape
 
-import planreason
-from planlevels import (
-    against_limits, bare_spans, breaks, held_span, level_steps, limit_steps, possible, sure, twisted,
-)
-from planreason import Emptied, Shortfall
 from planwords import RANGES, SENSES, count, sense_words, set_words
-from plansettle import REFUSALS, headline, narrowed, reason_sentences, refusal_words
+from plansettle import REFUSALS, headline, narrowed, refusal_words
 
 TASK_COLOURS = (
     "#2f6db5", "#13806f", "#7b52ab", "#b83b78", "#5b8a1f", "#8a5a3c", "#1f8fb0", "#5a6478",
@@ -20,7 +15,6 @@ LEVEL, LEVEL_SURE, LEVEL_WRONG = "#e1e5ea", "#b5bdc7", "#eda9ae"
 BARE, BARE_WRONG = "#ffe7a3", "#f9d9db"
 FONT = "'Helvetica Neue', Helvetica, Arial, 'DejaVu Sans', sans-serif"
 BOLD = 1.12  # bold letters are this much wider
-EMPTIED = "nothing left of"
 
 MARGIN = 32
 LABELS = 86
@@ -54,10 +48,6 @@ class Scale:
     def width(self):
         """The width of one day."""
         return DAYS / (self.last - self.first)
-
-    def shows(self, day):
-        """Whether a day is on the panel."""
-        return self.first <= day < self.last
 
 
 @dataclass(frozen=True)
@@ -102,14 +92,10 @@ class Lane:
         """Where the lane ends."""
         return self.strip_top() + (STRIP + 12 if self.place is not None and self.tasks else 0)
 
-    def paper_bottom(self):
-        """Where the white ground of its days ends."""
-        return self.bottom() - (8 if self.place is not None and self.tasks else 6)
-
 
 @dataclass(frozen=True)
 class Panel:
-    """One of the drawing's halves: its heading, its tasks, and where its columns stand, the one for an emptied value in one at most."""
+    """One of the drawing's halves: its heading, its tasks, and where its columns stand."""
 
     heading: str
     tasks: tuple
@@ -117,7 +103,6 @@ class Panel:
     columns: tuple
     right: float
     after: bool
-    emptied: object = None
 
 
 # Parts of SVG
@@ -169,6 +154,41 @@ def tint(colour):
 # Days
 
 
+def possible(task):
+    """The days that the task may cover, as low and the day after the last."""
+    return task.origin.low, task.end.high
+
+
+def sure(task, place):
+    """The days that the task surely covers on its only resource, or None."""
+    if task.places != 1 << place or task.origin.high >= task.end.low or twisted(task):
+        return None
+    return task.origin.high, task.end.low
+
+
+def held_span(tasks, place):
+    """The days on which a held resource is checked whatever is chosen, or None."""
+    # by the tasks that can be nowhere else: one has begun on each of these days, and one ends later
+    alone = [task for task in tasks if task.places == 1 << place and not twisted(task)]
+    if not alone:
+        return None
+    first, last = min(task.origin.high for task in alone), max(task.end.low for task in alone)
+    return (first, last) if first < last else None
+
+
+def bare_spans(tasks, place):
+    """The days of the held span on which no task is sure: there a plain resource is not checked."""
+    span, bare = held_span(tasks, place), []
+    if not span:
+        return bare
+    day, last = span
+    for first, after in sorted(found for found in (sure(task, place) for task in tasks) if found):
+        bare.append((day, first))
+        day = max(day, after)
+    bare.append((day, last))
+    return [found for found in bare if found[0] < found[1]]
+
+
 def day_span(plan):
     """The first day drawn and the day after the last one."""
     days = [day for task in plan.tasks for day in (*possible(task), task.origin.high, task.end.low)]
@@ -194,6 +214,78 @@ def ticks(first, last):
     """The labelled days."""
     step = tick_step(first, last)
     return range(-(-first // step) * step, last, step)
+
+
+# Levels
+
+
+def level_steps(tasks, place, sense, held=None):
+    """The best level left, as (first day, day after, level, whether it is checked: where a task is sure, and on held days)."""
+    changes, steps = level_changes(tasks, place, sense), []
+    add_span(changes, held, (0, 0, 1))
+    level = may = must = 0
+    days = sorted(changes)
+    for first, last in zip(days, days[1:]):
+        level, may, must = (a + b for a, b in zip((level, may, must), changes[first]))
+        step = (first, last, level, must > 0)
+        if not may and not must:
+            continue
+        if steps and steps[-1][1:] == (first, *step[2:]):
+            step = (steps.pop()[0], *step[1:])
+        steps.append(step)
+    return steps
+
+
+def level_changes(tasks, place, sense):
+    """What changes on which day: the best level, the tasks possible and the tasks sure."""
+    changes = {}
+    for task in tasks:
+        if not task.on(place) or twisted(task):
+            continue
+        height = task.height.high if sense == 1 else task.height.low
+        helps = height > 0 if sense == 1 else height < 0
+        add_span(changes, possible(task), (height if helps else 0, 1, 0))
+        add_span(changes, sure(task, place), (0 if helps else height, 0, 1))
+    return changes
+
+
+def add_span(changes, span, amounts):
+    """Adds amounts on the first day of a span and takes them off after its last."""
+    if span and span[0] < span[1]:
+        for day, sign in zip(span, (1, -1)):
+            old = changes.get(day, (0, 0, 0))
+            changes[day] = tuple(a + sign * b for a, b in zip(old, amounts))
+
+
+def limit_on(plan, place, day):
+    """The limit of a resource on a day: that of its last band whose first day is not after it, else its own."""
+    begun = [band.limit for _, band in plan.bands_of(place) if band.first <= day]
+    return begun[-1] if begun else plan.resources[place].limit
+
+
+def limit_steps(plan, place, first, last):
+    """The limits of the days drawn, as (first day, day after, limit); a band that changes nothing makes no step."""
+    starts = {band.first for _, band in plan.bands_of(place) if first < band.first < last}
+    steps, days = [], sorted({first, last} | starts)
+    for day, after in zip(days, days[1:]):
+        limit = limit_on(plan, place, day)
+        if steps and steps[-1][2] == limit:
+            day = steps.pop()[0]
+        steps.append((day, after, limit))
+    return tuple(steps)
+
+
+def against_limits(steps, limits):
+    """The steps of a level cut where the limit changes: (first day, day after, level, whether it is checked, limit)."""
+    for first, last, level, checked in steps:
+        for begins, ends, limit in limits:
+            if max(first, begins) < min(last, ends):
+                yield max(first, begins), min(last, ends), level, checked, limit
+
+
+def breaks(level, limit, sense):
+    """Whether a level is on the wrong side of the limit."""
+    return level < limit if sense == 1 else level > limit
 
 
 # Layout
@@ -234,40 +326,29 @@ def column_widths(tasks):
     ]
 
 
-def make_halves(plan, answer, step):
-    """The panels' headings and tasks: the plan, then what settling left, or what the step met that finds no plan, if that is narrower."""
-    halves = [("Before", plan.tasks)]
-    if not answer.refusal:
-        halves.append(("After settling", answer.tasks))
-    elif step and step.tasks != plan.tasks:
-        halves.append((f"When no plan was found, in pass {step.passes}", step.tasks))
-    return halves
-
-
-def make_panels(plan, halves, reason):
-    """The panels from left to right."""
+def make_panels(plan, answer):
+    """The panel before and, unless the plan is refused, the panel after."""
     first, last = day_span(plan)
-    widths = column_widths([task for _, tasks in halves for task in tasks])
+    widths = column_widths(plan.tasks + answer.tasks)
+    halves = [("Before", plan.tasks)] + ([] if answer.refusal else [("After settling", answer.tasks)])
     panels, left = [], MARGIN + LABELS
-    for k, (heading, tasks) in enumerate(halves):
-        columns, x, emptied = [], left + DAYS + 16, None
+    for heading, tasks in halves:
+        after = bool(panels)
+        columns, x = [], left + DAYS + 16
         for width in widths:
             columns.append(x + width)
             x += width + 16
-        if k:
+        if after:
             columns.append(x)
-            x += changes_width(plan.tasks, tasks)
-        if isinstance(reason, Emptied) and k == len(halves) - 1:
-            emptied = x + (16 if k else 0)
-            x = emptied + width_of(EMPTIED, 11)
-        panels.append(Panel(heading, tasks, Scale(first, last, left), tuple(columns), x, bool(k), emptied))
+            x += changes_width(plan, answer)
+        panels.append(Panel(heading, tasks, Scale(first, last, left), tuple(columns), x, after))
         left = x + GAP
     return panels
 
 
-def changes_width(old, new):
+def changes_width(plan, answer):
     """The width of the column that names what was narrowed."""
-    shown = [changes(*pair) for pair in zip(old, new)]
+    shown = [changes(old, new) for old, new in zip(plan.tasks, answer.tasks)]
     return max([width_of("narrowed", 11)] + [width_of(words, 12) for words in shown])
 
 
@@ -315,6 +396,11 @@ def taken_away(old, new, here):
     return [span for span in ((was, low), (high, until)) if span[0] < span[1]]
 
 
+def twisted(task):
+    """Whether a range has its low above its high, so that it means no days."""
+    return any(getattr(task, name).low > getattr(task, name).high for name in RANGES)
+
+
 def twisted_label(left, y):
     """A remark in place of the bars that can't be drawn."""
     return text(left + 10, y + 17, "low above high", 12, ALARM, font_style="italic")
@@ -356,7 +442,7 @@ def task_title(place, task):
 # Rows, strips and lanes
 
 
-def row(panel, plan, lane, task_place, y, reason):
+def row(panel, plan, lane, task_place, y):
     """One task's row in a panel: bars and columns."""
     old, task = plan.tasks[task_place], panel.tasks[task_place]
     names = narrowed(old, task)
@@ -369,32 +455,7 @@ def row(panel, plan, lane, task_place, y, reason):
     if panel.after:
         words = changes(old, task)
         parts.append(text(panel.columns[2], y + 17, words or "–", 12, MARK if words else FAINT))
-    if panel.emptied and reason.task == task_place:
-        parts.append(text(panel.emptied, y + 17, planreason.VALUES[reason.value], 12, ALARM, weight="bold"))
     return "".join(parts)
-
-
-def broken_day(panel, lane, reason):
-    """The column of the day on which the lane's resource can't keep its limit."""
-    if not isinstance(reason, Shortfall) or reason.place != lane.place or not panel.scale.shows(reason.day):
-        return ""
-    x, top = panel.scale.x(reason.day), lane.rows_top()
-    title = element("title", escape(f"day {reason.day}: the limit can't be kept"))
-    column = broken_box(x, top, max(panel.scale.width(), 2), lane.paper_bottom() - top)
-    return element("g", title + column, class_="broken")
-
-
-def broken_row(panels, task_place, y, reason):
-    """The ground of the row of the task of which nothing is left of a value."""
-    if not isinstance(reason, Emptied) or reason.task != task_place:
-        return ""
-    left, right = MARGIN - 6, panels[-1].right + 6
-    return element("g", broken_box(left, y + 1, right - left, ROW - 2), class_="broken")
-
-
-def broken_box(x, y, width, height):
-    """The sign of what broke."""
-    return box(x, y, width, height, rx=2, fill=ALARM, fill_opacity=0.1, stroke=ALARM, stroke_width=1.4)
 
 
 def strip(panels, lane, plan):
@@ -489,8 +550,8 @@ def lane_svg(panels, lane, plan, answer):
             parts.append(text(x, y, "no task may stand here", 12, MUTED, "middle", font_style="italic"))
     for k, task_place in enumerate(lane.tasks):
         y = lane.rows_top() + ROW * k
-        parts.append(broken_row(panels, task_place, y, answer.reason) + row_label(task_place, y, answer))
-        parts += [row(panel, plan, lane, task_place, y, answer.reason) for panel in panels]
+        parts.append(row_label(task_place, y, answer))
+        parts += [row(panel, plan, lane, task_place, y) for panel in panels]
     if lane.place is not None and lane.tasks:
         if lane.numbered():
             parts.append(text(MARGIN, lane.limits_top() + 11, "limit", 11, ALARM))
@@ -499,7 +560,6 @@ def lane_svg(panels, lane, plan, answer):
             parts += [held_row(panel, lane) for panel in panels]
         parts.append(text(MARGIN, lane.strip_top() + STRIP / 2 + 4, "level", 11, MUTED))
         parts.append(strip(panels, lane, plan))
-    parts += [broken_day(panel, lane, answer.reason) for panel in panels]
     return element("g", "".join(parts), class_="lane")
 
 
@@ -519,9 +579,7 @@ def lane_heading(lane, plan, answer):
 
 
 def resource_meant(plan, answer):
-    """The place of the resource that a refusal is about, by itself, by its band or by its shortfall, or None."""
-    if isinstance(answer.reason, Shortfall):
-        return answer.reason.place
+    """The place of the resource that a refusal is about, by itself or by its band, or None."""
     kind = REFUSALS.get(answer.refusal, ("",))[0]
     if kind == "band" and answer.place < len(plan.bands):
         return plan.bands[answer.place].place
@@ -530,23 +588,17 @@ def resource_meant(plan, answer):
 
 def row_label(place, y, answer):
     """The name of a row's task."""
-    wrong = task_meant(answer) == place
+    wrong = REFUSALS.get(answer.refusal, ("",))[0] == "task" and answer.place == place
     colour = TASK_COLOURS[place % len(TASK_COLOURS)]
     dot = element("circle", cx=MARGIN + 4, cy=y + ROW / 2, r=4, fill=colour)
     fill, weight = (ALARM, "bold") if wrong else (INK, "normal")
     return dot + text(MARGIN + 15, y + 17, f"task {place}", 12, fill, weight=weight)
 
 
-def task_meant(answer):
-    """The place of the task that a refusal is about, by itself or by its emptied value, or None."""
-    if isinstance(answer.reason, Emptied):
-        return answer.reason.task
-    return answer.place if REFUSALS.get(answer.refusal, ("",))[0] == "task" else None
-
-
 def lane_paper(panel, lane):
     """The white ground of a lane's days with its day lines."""
-    scale, top, bottom = panel.scale, lane.rows_top(), lane.paper_bottom()
+    scale, top = panel.scale, lane.rows_top()
+    bottom = lane.bottom() - 8 if lane.place is not None and lane.tasks else lane.bottom() - 6
     parts = [box(scale.left, top, DAYS, bottom - top, fill=PAPER)]
     for day in ticks(scale.first, scale.last) if lane.tasks else ():
         parts.append(line(scale.x(day), top, scale.x(day), bottom))
@@ -556,34 +608,22 @@ def lane_paper(panel, lane):
 # Head and foot
 
 
-def axis(panel, y, labelled, reason):
-    """The heading of a panel, its days and its columns."""
+def axis(panel, y, labelled):
+    """The heading of a panel and its days."""
     scale, parts = panel.scale, []
     parts.append(text(scale.left, y - 22, panel.heading, 15, weight="bold"))
     if labelled:
         for name, x in zip(("duration", "height", "narrowed"), panel.columns):
             parts.append(text(x, y, name, 11, MUTED, "start" if name == "narrowed" else "end"))
-        if panel.emptied:
-            parts.append(text(panel.emptied, y, EMPTIED, 11, ALARM))
         if not panel.after:
             parts.append(text(MARGIN, y, "day", 11, MUTED))
-        parts += day_labels(scale, y, reason.day if isinstance(reason, Shortfall) else None)
+        for day in ticks(scale.first, scale.last):
+            parts.append(text(scale.x(day) + scale.width() / 2, y, str(day), 11, MUTED, "middle"))
     return element("g", "".join(parts), class_="axis")
 
 
-def day_labels(scale, y, broken):
-    """The labelled days; the one that broke takes the room of those beside it."""
-    parts, middles = [], {day: scale.x(day) + scale.width() / 2 for day in ticks(scale.first, scale.last)}
-    if broken is not None and scale.shows(broken):
-        middle = scale.x(broken) + scale.width() / 2
-        parts.append(text(middle, y, str(broken), 11, ALARM, "middle", "bold"))
-        wide = width_of(str(broken), BOLD * 11) / 2 + 4
-        middles = {day: x for day, x in middles.items() if abs(x - middle) > wide + width_of(str(day), 11) / 2}
-    return parts + [text(x, y, str(day), 11, MUTED, "middle") for day, x in middles.items()]
-
-
-def legend_entries(plan, beside, reason):
-    """The signs of the legend, each with its words; beside says whether there is a second panel."""
+def legend_entries(plan, settled):
+    """The signs of the legend, each with its words."""
     colour = TASK_COLOURS[0]
     best = {1: "highest level still possible", 0: "lowest level still possible"}
     checked = "checked" if plan.held() else "a task is sure"
@@ -591,7 +631,7 @@ def legend_entries(plan, beside, reason):
         (lambda x, y: box(x, y, 26, BAR, rx=2, fill=tint(colour)), "possible days"),
         (lambda x, y: box(x, y, 26, BAR, rx=2, fill=colour), "sure days"),
     ]
-    if beside:
+    if settled:
         entries.append((lambda x, y: was_bar(Scale(0, DAYS, x), (0, 26), y), "was possible before"))
     if any(task.origin.low >= task.end.high and not twisted(task) for task in plan.tasks):
         entries.append((lambda x, y: no_day(x + 13, y, colour), "covers no day"))
@@ -603,9 +643,6 @@ def legend_entries(plan, beside, reason):
         entries.append((lambda x, y: limit_line([(x, x + 13, y + 11), (x + 13, x + 26, y + 3)]), "limit of the day"))
     else:
         entries.append((lambda x, y: limit_line([(x, x + 26, y + BAR / 2)]), "limit"))
-    if reason:
-        broken = "the day whose limit can't be kept" if isinstance(reason, Shortfall) else "the task of which a value ran out"
-        entries.append((lambda x, y: broken_box(x + 1, y, 24, BAR), broken))
     return entries
 
 
@@ -621,10 +658,10 @@ def held_sign(x, y):
     return held_bar(Scale(0, DAYS, x), (0, 26), [(8, 18)], y + 3)
 
 
-def legend(entries, y, right):
+def legend(plan, settled, y, right):
     """The legend, in as many lines as it needs, and its height."""
     parts, x, top = [], MARGIN, y
-    for sign, words in entries:
+    for sign, words in legend_entries(plan, settled):
         wide = 34 + width_of(words, 12) + 24
         if x + wide > right and x > MARGIN:
             x, y = MARGIN, y + LEGEND
@@ -645,9 +682,9 @@ def wrap(pieces, room, size, glue=" "):
     return lines
 
 
-def banner(sentences, y, right):
-    """The refusal in words, and their height."""
-    lines = [words for told in sentences for words in wrap(told.split(" "), right - MARGIN - 12, BOLD * 13)]
+def banner(answer, y, right):
+    """The refusal's words, and their height."""
+    lines = wrap(refusal_words(answer).split(" "), right - MARGIN - 12, BOLD * 13)
     high = 16 + 18 * len(lines)
     parts = [box(MARGIN - 12, y, right - MARGIN + 24, high, rx=6, fill=ALARM, fill_opacity=0.1)]
     parts.append(box(MARGIN - 12, y, 4, high, fill=ALARM))
@@ -672,20 +709,18 @@ def hatch():
 
 def drawing(plan, answer, title):
     """The whole drawing as SVG text."""
-    reason = answer.reason
-    step = planreason.failing_step(plan, reason) if reason else None
-    panels = make_panels(plan, make_halves(plan, answer, step), reason)
+    panels = make_panels(plan, answer)
     right = panels[-1].right
     parts = [text(MARGIN, 44, title, 22, weight="bold"), text(MARGIN, 66, subtitle(plan, answer), 13, MUTED)]
     y = 84
     if answer.refusal:
-        part, high = banner([refusal_words(answer), *(reason_sentences(plan, reason, step) if reason else [])], y, right)
+        part, high = banner(answer, y, right)
         parts.append(part)
         y += high
-    part, high = legend(legend_entries(plan, len(panels) > 1, reason), y, right)
+    part, high = legend(plan, not answer.refusal, y, right)
     parts.append(part)
     y += high + 14 + AXIS
-    parts += [axis(panel, y, bool(plan.tasks), reason) for panel in panels]
+    parts += [axis(panel, y, bool(plan.tasks)) for panel in panels]
     lanes = make_lanes(plan, y + 12, right)
     parts += [lane_svg(panels, lane, plan, answer) for lane in lanes]
     bottom = (lanes[-1].bottom() if lanes else y) + MARGIN

@@ -1,15 +1,10 @@
-# Calling the planner, reading its answer, the tables that show a plan and what was narrowed, and a refusal in words.
+# Calling the planner, reading its answer, and the tables that show a plan and what was narrowed.
 
 import re
 import subprocess
 from dataclasses import dataclass
 
-import planreason
-from planlevels import limit_on, sure
-from planreason import Emptied, Shortfall
-from planwords import (
-    RANGES, SENSES, PlanError, Range, band_words, count, resource_words, sense_words, set_words, task_from_numbers, task_words,
-)
+from planwords import RANGES, PlanError, band_words, count, resource_words, sense_words, set_words, task_from_numbers, task_words
 
 REFUSALS = {
     1: ("", "more than 256 tasks"),
@@ -31,23 +26,14 @@ REFUSALS = {
 MOST_BANDS, MOST_DAY, MOST_POWER = 64, 100_000, 1_000_000
 
 
-# What a task's values are to people, in the order in which the planner counts them
-VALUES_TOLD = ("first day", "days needed", "end", "height (people or power)", "resources")
-NO_PLAN = 7
-REASON = re.compile(r"refused 7 (day|task) ([0-9]{1,12}) (-?[0-9]{1,12})")
-# How many tasks or days a sentence names before it only counts them
-MOST_NAMED = 8
-
-
 @dataclass(frozen=True)
 class Answer:
-    """The planner's answer: passes and tasks if settled, else the refusal's number and place, or with no plan the reason."""
+    """The planner's answer: passes and tasks if settled, else the refusal's number and place."""
 
     passes: int = 0
     tasks: tuple = ()
     refusal: int = 0
     place: int = 0
-    reason: object = None
 
 
 # The planner
@@ -80,26 +66,10 @@ def read_answer(text, name):
 
 def read_refusal(lines, name):
     """The refusal in the planner's only line."""
-    if lines[0].split(" ")[1] == str(NO_PLAN):
-        return Answer(refusal=NO_PLAN, reason=read_reason(lines, name))
     numbers = numbers_of(lines[0].removeprefix("refused "), 2)
-    if numbers is None or numbers[0] not in REFUSALS or numbers[0] == NO_PLAN or len(lines) != 1:
+    if numbers is None or numbers[0] not in REFUSALS or len(lines) != 1:
         raise PlanError(f"{name}:1: '{lines[0]}' is not one line 'refused NUMBER PLACE'")
     return Answer(refusal=numbers[0], place=numbers[1])
-
-
-def read_reason(lines, name):
-    """The reason in the planner's only line where there is no plan."""
-    found = REASON.fullmatch(lines[0])
-    if not found or len(lines) != 1:
-        forms = "'refused 7 day RESOURCE DAY' or 'refused 7 task TASK VALUE'"
-        raise PlanError(f"{name}:1: '{lines[0]}' is not one line {forms}")
-    kind, place, number = found[1], int(found[2]), int(found[3])
-    low, high = (-MOST_DAY, MOST_DAY) if kind == "day" else (0, len(VALUES_TOLD) - 1)
-    if not low <= number <= high:
-        what = "day" if kind == "day" else "value"
-        raise PlanError(f"{name}:1: '{lines[0]}': {what} {number} is outside {low}..{high}")
-    return Shortfall(place, number) if kind == "day" else Emptied(place, number)
 
 
 def read_tasks(lines, name):
@@ -120,21 +90,10 @@ def numbers_of(text, wanted):
 
 
 def check_fits(plan, answer, name):
-    """An error if the answer has not one line for each of the plan's tasks, or its reason names what the plan has not."""
+    """An error if the answer has not one line for each of the plan's tasks."""
     if not answer.refusal and len(answer.tasks) != len(plan.tasks):
         has, wants = count(len(answer.tasks), "task"), len(plan.tasks)
         raise PlanError(f"{name}: the answer has {has} and the plan {wants}")
-    if answer.reason:
-        what, place, has = place_named(plan, answer.reason)
-        if place >= has:
-            raise PlanError(f"{name}: the answer names {what} {place} and the plan has {count(has, what)}")
-
-
-def place_named(plan, reason):
-    """What a reason names by a place: its kind, the place, and how many of them the plan has."""
-    if isinstance(reason, Shortfall):
-        return "resource", reason.place, len(plan.resources)
-    return "task", reason.task, len(plan.tasks)
 
 
 def narrowed(old, new):
@@ -238,26 +197,20 @@ def settled_text(plan, answer, name):
     return "".join(line + "\n" for line in lines)
 
 
-def narrowed_line(names, when=""):
+def narrowed_line(names):
     """How much was narrowed, in a sentence."""
     values, tasks = sum(map(len, names)), sum(map(bool, names))
     if not values:
-        return f"Nothing was narrowed{when}."
+        return "Nothing was narrowed."
     were = "was" if values == 1 else "were"
-    return f"{count(values, 'value')} in {count(tasks, 'task')} {were} narrowed{when} (marked *, old -> new)."
-
-
-# Refusals
+    return f"{count(values, 'value')} in {count(tasks, 'task')} {were} narrowed (marked *, old -> new)."
 
 
 def refused_text(plan, answer, name):
-    """The refusal in words, with the lines it is about if the plan is known, or the ranges that led to it."""
+    """The refusal in words, with the lines it is about if the plan is known."""
     lines = [f"{name}: {headline(plan)}"] if plan else [f"{name}:"]
     lines.append(refusal_words(answer))
-    if plan and answer.reason:
-        lines += no_plan_lines(plan, answer.reason)
-    else:
-        lines += [f"  {words}" for words in (lines_meant(plan, answer) if plan else ())]
+    lines += [f"  {words}" for words in (lines_meant(plan, answer) if plan else ())]
     return "".join(line + "\n" for line in lines)
 
 
@@ -284,114 +237,3 @@ def lines_meant(plan, answer):
     if kind == "task" and place < len(plan.tasks):
         return [task_words(plan.tasks[place])]
     return []
-
-
-# Why there is no plan
-
-
-def no_plan_lines(plan, reason):
-    """The reason in sentences, and below them the plan beside the ranges that the step met which finds none."""
-    step = planreason.failing_step(plan, reason)
-    lines = [*reason_sentences(plan, reason, step), "", *resource_table(plan), ""]
-    if not step:
-        lines += task_table([cells_of(task) for task in plan.tasks]) if plan.tasks else ["no tasks"]
-        return [*lines, "", "These are the ranges of the plan as it was lent; those that the step met were not found again."]
-    pairs = list(zip(plan.tasks, step.tasks))
-    where = "the balance step" if step.place is None else f"the step of {resource_named(plan, step.place)}"
-    when = f" before {where} in pass {step.passes}"
-    return [*lines, *task_table([cells_beside(*pair) for pair in pairs]), "", narrowed_line([narrowed(*pair) for pair in pairs], when)]
-
-
-def reason_sentences(plan, reason, step):
-    """The reason in sentences; without the step they say only what is true whatever the steps before it narrowed."""
-    if plan.sense >= len(SENSES):
-        return []
-    if isinstance(reason, Emptied):
-        return [emptied_sentence(plan, reason, step)]
-    return [shortfall_sentence(plan, reason, step), *sure_sentences(plan, reason, step)]
-
-
-def resource_named(plan, place):
-    """A resource by its identifier and its place."""
-    return f"resource {plan.resources[place].identifier} (place {place})"
-
-
-def listed(names, glue="and", what=""):
-    """Names one after another, the first few of many; what says what those are that are only counted."""
-    left = len(names) - MOST_NAMED
-    if left > 0:
-        names = [*names[:MOST_NAMED], count(left, f"more {what}") if what else f"{left} more"]
-    return f" {glue} ".join([", ".join(names[:-1]), names[-1]]) if len(names) > 1 else names[0]
-
-
-def shortfall_sentence(plan, reason, step):
-    """What is asked for on the day of a shortfall, and what can be had at best."""
-    limit, where = limit_on(plan, reason.place, reason.day), resource_named(plan, reason.place)
-    begun = [band.first for _, band in plan.bands_of(reason.place) if band.first <= reason.day]
-    since = f" from day {begun[-1]} on" if begun else ""
-    level = planreason.level_met(plan, step) if step else None
-    if SENSES[plan.sense] == "at most":
-        least = f"more than {limit}" if level is None else f"{level} or more"
-        # a held day may be bare: then no task is sure there, and what stands there is nothing
-        stand = "are sure" if not step or sure_tasks(plan, reason, step) else "stand in any case"
-        return f"On day {reason.day} at most {limit} can stand on {where}{since}, where {least} {stand}."
-    most = f"can't reach {limit}, which is" if level is None else f"can reach at most {level}, where {limit} or more are"
-    return f"On day {reason.day} {where} {most} asked for{since}."
-
-
-def sure_tasks(plan, reason, step):
-    """The places of the tasks that are sure on the day of a shortfall."""
-    tasks = step.tasks if step else plan.tasks
-    days = [(k, sure(task, reason.place)) for k, task in enumerate(tasks)]
-    return [str(k) for k, span in days if span and span[0] <= reason.day < span[1]]
-
-
-def sure_sentences(plan, reason, step):
-    """Which tasks are sure on the day of a shortfall, or which hold the day where it is bare."""
-    names = sure_tasks(plan, reason, step)
-    if names:
-        lent = "" if step else " in the plan as it was lent"
-        return [f"{'Tasks' if len(names) > 1 else 'Task'} {listed(names)} {'are' if len(names) > 1 else 'is'} sure there{lent}."]
-    return [holders_sentence(step.tasks, reason.place)] if step else []
-
-
-def holders_sentence(tasks, place):
-    """Which tasks hold a bare day: the one that has to begin first, and the one that has to end last."""
-    alone = [k for k, task in enumerate(tasks) if task.places == 1 << place]
-    first, last = min(alone, key=lambda k: tasks[k].origin.high), max(alone, key=lambda k: tasks[k].end.low)
-    return (
-        f"No task is sure there, but the resource is held: task {first} begins on day {tasks[first].origin.high} at the latest, "
-        f"task {last} ends on day {tasks[last].end.low} at the earliest."
-    )
-
-
-def emptied_sentence(plan, reason, step):
-    """Of which value of which task nothing is left, and what rules it out."""
-    told = f"Nothing is left of the {VALUES_TOLD[reason.value]} of task {reason.task}"
-    if not step:
-        return f"{told}."
-    task = step.tasks[reason.task]
-    was = getattr(task, RANGES[reason.value]).words() if reason.value < len(RANGES) else f"places {set_words(task.places)}"
-    return f"{told} ({was}){balance_words(task) if step.place is None else days_words(plan, step)}."
-
-
-def balance_words(task):
-    """What balance leaves for a task's first day; where it leaves nothing of another value, it leaves nothing of this one, which comes first."""
-    span = Range(*planreason.balance_span(task, "origin"))
-    return f": its end ({task.end.words()}) less its days needed ({task.duration.words()}) is {span.words()}"
-
-
-def days_words(plan, step):
-    """How many days a task takes, which it has to cover on the step's resource, and which it can't."""
-    needed, barred = planreason.days_said(plan, step)
-    parts = [f"has to cover {listed(list(map(span_words, needed)), what='span')}"] if needed else []
-    parts += [f"can't cover {listed(list(map(span_words, barred)), 'or', 'span')}"] if barred else []
-    takes = step.tasks[step.reason.task].duration
-    days = f"{takes.words()} {'day' if takes == Range(1, 1) else 'days'}"
-    return f": on {resource_named(plan, step.place)} the task, which takes {days}, {' and '.join(parts)}" if parts else ""
-
-
-def span_words(span):
-    """A span of days in words."""
-    first, past = span
-    return f"day {first}" if past == first + 1 else f"days {first} to {past - 1}"

@@ -18,11 +18,8 @@ EXAMPLES = TOOLS.parent / "examples"
 sys.path.insert(0, str(TOOLS))
 
 import plandraw
-import planlevels
-import planreason
 import plansettle
 import planwords
-from planreason import Emptied, Shortfall
 from planwords import Band, Plan, PlanError, Range, Resource, Task
 
 CASE9_WORDS = """\
@@ -117,103 +114,6 @@ BAD_KINDS = [
     ("resource 1 held 2", "the limit: 'held' is not a whole number"),
     ("held 1 2", "'held' is not understood; a line begins with 'at least', 'at most', 'resource', 'band' or 'task'"),
     ("band 0 from 1 limit 2 held", "a band is written 'band PLACE from DAY limit LIMIT'"),
-]
-
-
-# Plans that have none, each with the planner's line and what is told of it
-CREW_JOB = "task on 0  origin 12  duration 1  end 13  height 1\n"
-WELDING = """\
-at most
-resource 80 -4
-resource 81 0
-task on 0  origin 5  duration 2  end 7  height 7..8
-task on 0,1  origin 4..6  duration 3  end 7..9  height -6..-1
-"""
-BOTH_WAYS = """\
-at least
-resource 7 3
-resource 8 0
-task on 0  origin 1  duration 1  end 2  height 1
-task on 0,1  origin 1  duration 2  end 3  height 2
-"""
-ZERO_WORDS = """\
-at least
-resource 7 -2
-resource 8 2 held
-task on 1  origin 0..2  duration 0  end 0..2  height 9
-task on 1  origin 4..5  duration 2..3  end 6..8  height 2
-task on 1  origin 9  duration 0  end 9  height 0
-task on 0,1  origin 2..3  duration 3  end 5..6  height 1
-"""
-NO_PLANS = [
-    ("at most\nresource 31 2\n" + CREW_JOB * 3, "day 0 12", [
-        "On day 12 at most 2 can stand on resource 31 (place 0), where 3 or more are sure.",
-        "Tasks 0, 1 and 2 are sure there.",
-    ]),
-    ("at most\nresource 31 9\n" + CREW_JOB * 10, "day 0 12", [
-        "On day 12 at most 9 can stand on resource 31 (place 0), where 10 or more are sure.",
-        "Tasks 0, 1, 2, 3, 4, 5, 6, 7 and 2 more are sure there.",
-    ]),
-    # heights of 4 and 7 at the least
-    ("at most\nresource -3 10\n" + CREW_JOB.replace("height 1", "height 4..6") + CREW_JOB.replace("height 1", "height 7..9"), "day 0 12", [
-        "On day 12 at most 10 can stand on resource -3 (place 0), where 11 or more are sure.",
-        "Tasks 0 and 1 are sure there.",
-    ]),
-    # 7 at least are drawn, and 6 at most come back, if the second task is there at all
-    (WELDING, "day 0 5", [
-        "On day 5 at most -4 can stand on resource 80 (place 0), where 1 or more are sure.",
-        "Task 0 is sure there.",
-    ]),
-    ("at least\nresource 7 0\ntask on 0  origin 5  duration 1  end 6  height -1\n", "day 0 5", [
-        "On day 5 resource 7 (place 0) can reach at most -1, where 0 or more are asked for.",
-        "Task 0 is sure there.",
-    ]),
-    (SEASON_WORDS, "day 0 4", [
-        "On day 4 resource 7 (place 0) can reach at most 4, where 5 or more are asked for from day 4 on.",
-        "Task 0 is sure there.",
-    ]),
-    (SEASON_WORDS.replace("at least", "at most").replace("limit 1", "limit 2").replace("resource 7 2", "resource 7 4"), "day 0 7", [
-        "On day 7 at most 2 can stand on resource 7 (place 0) from day 7 on, where 3 or more are sure.",
-        "Task 0 is sure there.",
-    ]),
-    (BETWEEN_WORDS, "day 0 3", [
-        "On day 3 resource 7 (place 0) can reach at most 0, where 2 or more are asked for.",
-        "No task is sure there, but the resource is held: task 0 begins on day 1 at the latest, task 1 ends on day 7 at the earliest.",
-    ]),
-    # days 2 to 8 are held, by two tasks that take no day; 1 can be there on days 2 and 3, and on day 8 nothing
-    (ZERO_WORDS, "day 1 2", [
-        "On day 2 resource 8 (place 1) can reach at most 1, where 2 or more are asked for.",
-        "No task is sure there, but the resource is held: task 0 begins on day 2 at the latest, task 2 ends on day 9 at the earliest.",
-    ]),
-    ("at least\nresource 7 0\ntask on 0  origin 5  duration 1  end 7  height 0\n", "task 0 0", [
-        "Nothing is left of the first day of task 0 (5): its end (7) less its days needed (1) is 6.",
-    ]),
-    ("at most\nresource 7 0\ntask on 0  origin 8..9  duration 3..4  end 9..10  height 0\n", "task 0 0", [
-        "Nothing is left of the first day of task 0 (8..9): its end (9..10) less its days needed (3..4) is 5..7.",
-    ]),
-    # needed on day 1, where 3 are due and 1 is there; alone on day 2, where it has not enough
-    (BOTH_WAYS, "task 1 4", [
-        "Nothing is left of the resources of task 1 (places 0,1): on resource 7 (place 0) the task, which takes 2 days, "
-        "has to cover day 1 and can't cover day 2.",
-    ]),
-    # days 3 to 5 and 8 to 9 are taken
-    ("at most\nresource 51 2\ntask on 0  origin 3  duration 3  end 6  height 2\ntask on 0  origin 8  duration 2  end 10  height 1\n"
-     "task on 0  origin 1..7  duration 3  end 4..10  height 2\n", "task 2 0", [
-        "Nothing is left of the first day of task 2 (1..7): on resource 51 (place 0) the task, which takes 3 days, "
-        "can't cover days 3 to 5 or days 8 to 9.",
-    ]),
-    # on days 1 and 3 the job of a day is needed
-    ("at least\nresource 7 1\ntask on 0  origin 1  duration 1  end 2  height 0\ntask on 0  origin 3  duration 1  end 4  height 0\n"
-     "task on 0  origin 1..3  duration 1  end 2..4  height 1\n", "task 2 0", [
-        "Nothing is left of the first day of task 2 (1..3): on resource 7 (place 0) the task, which takes 1 day, "
-        "has to cover day 1 and day 3.",
-    ]),
-    # every third day from 0 to 27 is taken
-    ("at most\nresource 7 1\n" + "".join(f"task on 0  origin {3 * k}  duration 1  end {3 * k + 1}  height 1\n" for k in range(10))
-     + "task on 0  origin 0..27  duration 4..6  end 4..31  height 1\n", "task 10 0", [
-        "Nothing is left of the first day of task 10 (0..27): on resource 7 (place 0) the task, which takes 4..6 days, "
-        "can't cover day 0, day 3, day 6, day 9, day 12, day 15, day 18, day 21 or 2 more spans.",
-    ]),
 ]
 
 
@@ -466,8 +366,7 @@ class Answers(unittest.TestCase):
 
     def test_every_refusal_has_words(self):
         for number in range(1, 14):
-            line = "refused 7 day 0 1\n" if number == 7 else f"refused {number} 0\n"
-            self.assertIn(f"number {number}", plansettle.refusal_words(answer_of(line)))
+            self.assertIn(f"number {number}", plansettle.refusal_words(answer_of(f"refused {number} 0\n")))
 
     def test_refusal_shows_its_line(self):
         plan = words_plan(CASE9_WORDS)
@@ -559,128 +458,23 @@ class Answers(unittest.TestCase):
 
     def test_output_that_is_not_understood(self):
         for text in [
-            "", "settled 1", "settled\n", "settled x\n", "refused 6\n", "refused 14 0\n", "refused 6 0\n\n", "done 1\n",
+            "", "settled 1", "settled\n", "settled x\n", "refused 7\n", "refused 14 0\n", "refused 7 0\n\n", "done 1\n",
             "settled 1\n1 1 1 2 2 2 3 4 0 1\n", "settled 1\n0 1 1 2 2 2 3 4 0\n", "settled 1\n0  1 1 2 2 2 3 4 0 1\n",
         ]:
             with self.subTest(text=text), self.assertRaises(PlanError):
                 answer_of(text)
 
 
-class Reasons(unittest.TestCase):
-    """The planner's lines with the reason why there is no plan, and what is told of them."""
-
-    def test_lines(self):
-        for line, reason in [
-            ("day 0 4", Shortfall(0, 4)), ("day 15 -100000", Shortfall(15, -100000)), ("day 63 99999", Shortfall(63, 99999)),
-            ("task 0 0", Emptied(0, 0)), ("task 255 4", Emptied(255, 4)),
-        ]:
-            self.assertEqual(answer_of(f"refused 7 {line}\n"), plansettle.Answer(refusal=7, reason=reason))
-
-    def test_lines_that_are_not_understood(self):
-        forms = "is not one line 'refused 7 day RESOURCE DAY' or 'refused 7 task TASK VALUE'"
-        for rest in [
-            "", " ", " 0", " 0 0", " day", " day 0", " day 0 ", " day 0 4 ", " day 0 4 1", " day  0 4", "  day 0 4", " day -1 4", " day 0 x", " day x 4",
-            " day 0 4.5", " day 0 +4", " day 0 - 4", " task", " task 3", " task 3 0 1", " task -3 0", " task 3 end", " Day 0 4", " night 0 4", " 0 day 4",
-            " day,0,4", "\tday 0 4",
-        ]:
-            with self.subTest(rest=rest), self.assertRaises(PlanError) as caught:
-                answer_of(f"refused 7{rest}\n")
-            wanted = forms if rest != "\tday 0 4" else "is not one line 'refused NUMBER PLACE'"
-            self.assertEqual(str(caught.exception), f"answer:1: 'refused 7{rest}' {wanted}")
-        for text, problem in [
-            ("refused 7 day 0 4\n\n", f"'refused 7 day 0 4' {forms}"),
-            ("refused 7 task 0 4\n0 1 1 2 2 2 3 4 0 1\n", f"'refused 7 task 0 4' {forms}"),
-            ("refused 7 day 0 100001\n", "'refused 7 day 0 100001': day 100001 is outside -100000..100000"),
-            ("refused 7 day 0 -100001\n", "'refused 7 day 0 -100001': day -100001 is outside -100000..100000"),
-            ("refused 7 task 0 5\n", "'refused 7 task 0 5': value 5 is outside 0..4"),
-            ("refused 7 task 0 -1\n", "'refused 7 task 0 -1': value -1 is outside 0..4"),
-            ("refused 07 0\n", "'refused 07 0' is not one line 'refused NUMBER PLACE'"),
-            ("refused 6 day 0 4\n", "'refused 6 day 0 4' is not one line 'refused NUMBER PLACE'"),
-        ]:
-            with self.subTest(text=text), self.assertRaises(PlanError) as caught:
-                answer_of(text)
-            self.assertEqual(str(caught.exception), f"answer:1: {problem}")
-
-    def test_lines_beyond_the_plan(self):
-        plan = words_plan(CASE9_WORDS)
-        for line, problem in [
-            ("day 2 4", "the answer names resource 2 and the plan has 2 resources"),
-            ("task 2 0", "the answer names task 2 and the plan has 2 tasks"),
-            ("task 255 4", "the answer names task 255 and the plan has 2 tasks"),
-        ]:
-            with self.subTest(line=line), self.assertRaises(PlanError) as caught:
-                plansettle.check_fits(plan, answer_of(f"refused 7 {line}\n"), "answer")
-            self.assertEqual(str(caught.exception), f"answer: {problem}")
-        for line in ("day 1 4", "task 1 4"):
-            plansettle.check_fits(plan, answer_of(f"refused 7 {line}\n"), "answer")
-        with self.assertRaisesRegex(PlanError, "^answer: the answer names resource 1 and the plan has 1 resource$"):
-            plansettle.check_fits(words_plan("at least\nresource 1 1\n"), answer_of("refused 7 day 1 0\n"), "answer")
-
-    def test_reasons_in_sentences(self):
-        for words, line, sentences in NO_PLANS:
-            with self.subTest(line=line, words=words):
-                plan, reason = words_plan(words), answer_of(f"refused 7 {line}\n").reason
-                step = planreason.failing_step(plan, reason)
-                self.assertEqual(planreason.first_failing(plan).reason, reason)
-                self.assertEqual(plansettle.reason_sentences(plan, reason, step), sentences)
-
-    def test_reasons_that_are_not_found_again(self):
-        # Case 9 settles, so none of these is its reason: only what the line itself says is told, and what no step can change.
-        last = "These are the ranges of the plan as it was lent; those that the step met were not found again."
-        for words, line, sentences in [
-            (CASE9_WORDS, "day 0 2", [
-                "On day 2 resource 7 (place 0) can't reach 4, which is asked for.", "Task 0 is sure there in the plan as it was lent.",
-            ]),
-            (CASE9_WORDS, "day 1 -3", ["On day -3 resource 9 (place 1) can't reach 3, which is asked for."]),
-            (SEASON_WORDS, "day 0 5", [
-                "On day 5 resource 7 (place 0) can't reach 5, which is asked for from day 4 on.", "Task 0 is sure there in the plan as it was lent.",
-            ]),
-            (CASE9_WORDS.replace("least", "most"), "day 0 4", ["On day 4 at most 4 can stand on resource 7 (place 0), where more than 4 are sure."]),
-            *((CASE9_WORDS, f"task 1 {k}", [f"Nothing is left of the {told} of task 1."]) for k, told in enumerate(
-                ("first day", "days needed", "end", "height (people or power)", "resources")
-            )),
-        ]:
-            text = plansettle.refused_text(words_plan(words), answer_of(f"refused 7 {line}\n"), "x").split("\n")
-            self.assertEqual(text[1], "Refused with number 7: a step finds no plan.")
-            self.assertEqual(text[2 : text.index("")], sentences)
-            self.assertEqual(text[-2:], [last, ""])
-            self.assertNotIn("->", "".join(text))
-
-    def test_whole_text(self):
-        plan = words_plan((EXAMPLES / "no-plan.txt").read_text())
-        self.assertEqual(plansettle.refused_text(plan, answer_of("refused 7 day 0 4\n"), "no-plan"), (
-            "no-plan: at most, 1 resource, 3 tasks\n"
-            "Refused with number 7: a step finds no plan.\n"
-            "On day 4 at most 1 can stand on resource 70 (place 0), where 2 or more are sure.\n"
-            "Tasks 1 and 2 are sure there.\n"
-            "\n"
-            "place  resource  limit (at most)\n"
-            "-----  --------  ---------------\n"
-            "    0        70                1\n"
-            "\n"
-            "task  on places  origin          duration  end             height\n"
-            "----  ---------  --------------  --------  --------------  ------\n"
-            "   0  0          1..2            2         3..4            1\n"
-            "   1  0          1..4 -> 3..4 *  2         3..6 -> 5..6 *  1\n"
-            "   2  0          2..4 -> 3..4 *  2         4..6 -> 5..6 *  1\n"
-            "\n"
-            "4 values in 2 tasks were narrowed before the step of resource 70 (place 0) in pass 2 (marked *, old -> new).\n"
-        ))
-        text = plansettle.refused_text(words_plan(NO_PLANS[9][0]), answer_of("refused 7 task 0 0\n"), "case4")
-        self.assertTrue(text.endswith("\n\nNothing was narrowed before the balance step in pass 1.\n"), text)
-
-
-def drawing_of(plan, answer):
-    """The outermost element of a drawing."""
-    return ElementTree.fromstring(plandraw.drawing(plan, answer, "a <plan> & more").encode())
-
-
 class Drawings(unittest.TestCase):
     """The drawings are well-formed and hold the bars they should."""
 
+    def drawn(self, plan, answer):
+        """The outermost element of a drawing."""
+        return ElementTree.fromstring(plandraw.drawing(plan, answer, "a <plan> & more").encode())
+
     def bars(self, plan, answer):
         """How many elements of each class a drawing has, and its texts."""
-        root = drawing_of(plan, answer)
+        root = self.drawn(plan, answer)
         counts, texts = {}, []
         for found in root.iter():
             counts[found.get("class")] = counts.get(found.get("class"), 0) + 1
@@ -713,10 +507,9 @@ class Drawings(unittest.TestCase):
             self.assertEqual(counts["lane"], len(plan.resources))
 
     def test_refusal_draws_only_before(self):
-        for line in ("refused 5 0\n", "refused 7 day 0 2\n", "refused 7 task 1 2\n"):
-            counts, texts = self.bars(words_plan(CASE9_WORDS), answer_of(line))
-            self.assertEqual((counts["possible"], counts["axis"], counts["refusal"]), (3, 1, 1))
-            self.assertNotIn("was", counts)
+        counts, texts = self.bars(words_plan(CASE9_WORDS), answer_of("refused 7 0\n"))
+        self.assertEqual((counts["possible"], counts["axis"], counts["refusal"]), (3, 1, 1))
+        self.assertNotIn("was", counts)
         self.assertTrue(any("a step finds no plan" in words for words in texts))
 
     def test_odd_plans(self):
@@ -761,17 +554,17 @@ class Drawings(unittest.TestCase):
         ]:
             with self.subTest(tasks=tasks):
                 plan = words_plan("at least\nresource 1 1 held\nresource 2 1\n" + "".join(task.format(*parts) for parts in tasks))
-                self.assertEqual(planlevels.held_span(plan.tasks, 0), span)
-                self.assertEqual(planlevels.bare_spans(plan.tasks, 0), bare)
+                self.assertEqual(plandraw.held_span(plan.tasks, 0), span)
+                self.assertEqual(plandraw.bare_spans(plan.tasks, 0), bare)
 
     def test_held_days_are_those_of_the_rule(self):
         dice = random.Random(5)
         for _ in range(200):
             plan, _ = good_plan(dice)
             for place in range(len(plan.resources)):
-                span = planlevels.held_span(plan.tasks, place)
+                span = plandraw.held_span(plan.tasks, place)
                 days = {day for bounds in ([span] if span else []) for day in range(*bounds)}
-                bare = [day for bounds in planlevels.bare_spans(plan.tasks, place) for day in range(*bounds)]
+                bare = [day for bounds in plandraw.bare_spans(plan.tasks, place) for day in range(*bounds)]
                 alone = [task for task in plan.tasks if task.places == 1 << place]
                 for day in range(-12, 32):
                     begun, ends = any(task.origin.high <= day for task in alone), any(task.end.low > day for task in alone)
@@ -780,18 +573,18 @@ class Drawings(unittest.TestCase):
 
     def test_levels_of_held_days(self):
         plan = words_plan(BETWEEN_WORDS)
-        days = planlevels.held_span(plan.tasks, 0)
-        self.assertEqual(planlevels.level_steps(plan.tasks, 0, 1, days), [(1, 3, 2, True), (3, 5, 0, True), (5, 7, 2, True)])
-        self.assertEqual(planlevels.level_steps(plan.tasks, 0, 1), [(1, 3, 2, True), (5, 7, 2, True)])
+        days = plandraw.held_span(plan.tasks, 0)
+        self.assertEqual(plandraw.level_steps(plan.tasks, 0, 1, days), [(1, 3, 2, True), (3, 5, 0, True), (5, 7, 2, True)])
+        self.assertEqual(plandraw.level_steps(plan.tasks, 0, 1), [(1, 3, 2, True), (5, 7, 2, True)])
         # A task that may be there lifts the level of a bare day, which is checked then too.
         more = words_plan(BETWEEN_WORDS + "task on 0,1  origin 2..7  duration 2  end 4..9  height 3\n")
-        self.assertEqual(planlevels.level_steps(more.tasks, 0, 1, days), [
+        self.assertEqual(plandraw.level_steps(more.tasks, 0, 1, days), [
             (1, 2, 2, True), (2, 3, 5, True), (3, 5, 3, True), (5, 7, 5, True), (7, 9, 3, False),
         ])
 
     def test_held_days_are_drawn(self):
         plan = words_plan(BETWEEN_WORDS)
-        root = drawing_of(plan, answer_of("refused 7 day 0 3\n"))
+        root = self.drawn(plan, answer_of("refused 7 0\n"))
         held = [found for found in root.iter() if found.get("class") == "held"]
         # Days 0 to 7 are drawn, 55 wide each; the plain resource with the same tasks has no such bar.
         self.assertEqual(len(held), 1)
@@ -809,13 +602,13 @@ class Drawings(unittest.TestCase):
 
     def test_held_days_that_are_enough(self):
         plan = words_plan(BETWEEN_WORDS.replace("resource 7 2", "resource 7 -1"))
-        root = drawing_of(plan, plansettle.Answer(passes=1, tasks=plan.tasks))
+        root = self.drawn(plan, plansettle.Answer(passes=1, tasks=plan.tasks))
         bare = [found.get("fill") for found in root.iter() if found.get("class") == "bare"]
         self.assertEqual(bare, [plandraw.BARE] * 2)
 
     def test_ground_of_bare_days_changes_with_the_limit(self):
         plan = words_plan(BETWEEN_WORDS.replace("resource 8", "band 0 from 4 limit 0\nresource 8"))
-        root = drawing_of(plan, answer_of("refused 7 day 0 3\n"))
+        root = self.drawn(plan, answer_of("refused 7 0\n"))
         bare = [(found.get("fill"), float(found.get("width"))) for found in root.iter() if found.get("class") == "bare"]
         self.assertEqual(bare, [(plandraw.BARE_WRONG, 55), (plandraw.BARE, 55)])
 
@@ -837,41 +630,41 @@ class Drawings(unittest.TestCase):
             self.assertEqual(told, [has, has, not has])
 
     def test_plain_plans_have_no_sign_of_held_days(self):
-        for text, answer in ((CASE9_WORDS, CASE9_ANSWER), (SEASON_WORDS, "refused 7 day 0 4\n")):
+        for text, answer in ((CASE9_WORDS, CASE9_ANSWER), (SEASON_WORDS, "refused 7 0\n")):
             drawn = plandraw.drawing(words_plan(text), answer_of(answer), "plain")
             for sign in ("held", "bare", plandraw.BARE, plandraw.BARE_WRONG):
                 self.assertNotIn(sign, drawn)
 
     def test_levels(self):
         plan = words_plan("at most\nresource 1 1\ntask on 0 origin 1..2 duration 2 end 3..4 height 1\n")
-        self.assertEqual(planlevels.level_steps(plan.tasks, 0, 0), [(1, 2, 0, False), (2, 3, 1, True), (3, 4, 0, False)])
-        self.assertEqual(planlevels.level_steps(plan.tasks, 0, 1), [(1, 2, 1, False), (2, 3, 1, True), (3, 4, 1, False)])
+        self.assertEqual(plandraw.level_steps(plan.tasks, 0, 0), [(1, 2, 0, False), (2, 3, 1, True), (3, 4, 0, False)])
+        self.assertEqual(plandraw.level_steps(plan.tasks, 0, 1), [(1, 2, 1, False), (2, 3, 1, True), (3, 4, 1, False)])
 
 
     def test_limit_of_each_day(self):
         plan = words_plan(SEASON_WORDS)
         days = range(-4, 11)
-        self.assertEqual([planlevels.limit_on(plan, 0, day) for day in days], [2] * 8 + [5] * 3 + [1] * 4)
-        self.assertEqual([planlevels.limit_on(plan, 1, day) for day in days], [0] * 15)
-        self.assertEqual([planlevels.limit_on(plan, 2, day) for day in days], [3] * 2 + [6] * 13)
-        self.assertEqual(planlevels.limit_steps(plan, 0, -1, 10), ((-1, 4, 2), (4, 7, 5), (7, 10, 1)))
-        self.assertEqual(planlevels.limit_steps(plan, 0, 7, 9), ((7, 9, 1),))
-        self.assertEqual(planlevels.limit_steps(plan, 2, -1, 10), ((-1, 10, 6),))
+        self.assertEqual([plandraw.limit_on(plan, 0, day) for day in days], [2] * 8 + [5] * 3 + [1] * 4)
+        self.assertEqual([plandraw.limit_on(plan, 1, day) for day in days], [0] * 15)
+        self.assertEqual([plandraw.limit_on(plan, 2, day) for day in days], [3] * 2 + [6] * 13)
+        self.assertEqual(plandraw.limit_steps(plan, 0, -1, 10), ((-1, 4, 2), (4, 7, 5), (7, 10, 1)))
+        self.assertEqual(plandraw.limit_steps(plan, 0, 7, 9), ((7, 9, 1),))
+        self.assertEqual(plandraw.limit_steps(plan, 2, -1, 10), ((-1, 10, 6),))
         same = words_plan(SEASON_WORDS.replace("limit 5", "limit 2"))
-        self.assertEqual(planlevels.limit_steps(same, 0, -1, 10), ((-1, 7, 2), (7, 10, 1)))
+        self.assertEqual(plandraw.limit_steps(same, 0, -1, 10), ((-1, 7, 2), (7, 10, 1)))
 
     def test_limit_steps_are_the_days_limits(self):
         dice = random.Random(4)
         for _ in range(200):
             plan, _ = good_plan(dice)
             for place in range(len(plan.resources)):
-                steps = planlevels.limit_steps(plan, place, -15, 15)
+                steps = plandraw.limit_steps(plan, place, -15, 15)
                 days = [limit for first, last, limit in steps for _ in range(first, last)]
-                self.assertEqual(days, [planlevels.limit_on(plan, place, day) for day in range(-15, 15)])
+                self.assertEqual(days, [plandraw.limit_on(plan, place, day) for day in range(-15, 15)])
 
     def test_level_line_has_the_steps(self):
         plan = words_plan(SEASON_WORDS)
-        root = drawing_of(plan, plansettle.Answer(passes=1, tasks=plan.tasks))
+        root = self.drawn(plan, plansettle.Answer(passes=1, tasks=plan.tasks))
         legend, *lines = [found.get("d") for found in root.iter() if found.get("class") == "limit"]
         # One line in each panel, for only the first resource has a task; days -1 to 10 are drawn, 40 wide each.
         self.assertEqual(len(lines), 2)
@@ -888,11 +681,11 @@ class Drawings(unittest.TestCase):
 
     def test_level_is_wrong_on_the_bands_days_only(self):
         plan = words_plan(SEASON_WORDS)
-        steps = planlevels.level_steps(plan.tasks, 0, 1)
-        self.assertEqual(list(planlevels.against_limits(steps, planlevels.limit_steps(plan, 0, -1, 10))), [
+        steps = plandraw.level_steps(plan.tasks, 0, 1)
+        self.assertEqual(list(plandraw.against_limits(steps, plandraw.limit_steps(plan, 0, -1, 10))), [
             (0, 4, 4, True, 2), (4, 7, 4, True, 5), (7, 9, 4, True, 1),
         ])
-        root = drawing_of(plan, answer_of("refused 7 day 0 4\n"))
+        root = self.drawn(plan, answer_of("refused 7 0\n"))
         wrong = [found for found in root.iter() if found.get("fill") == plandraw.LEVEL_WRONG]
         self.assertEqual([(found.get("x"), found.get("width")) for found in wrong], [("318", "120")])
 
@@ -911,91 +704,6 @@ class Drawings(unittest.TestCase):
         counts, texts = self.bars(plan, answer_of("refused 13 2\n"))
         self.assertEqual(counts["refusal"], 1)
         self.assertTrue(any("at band 2" in words for words in texts))
-
-
-class BrokenDrawings(unittest.TestCase):
-    """Drawings of plans that have none mark the day or the row."""
-
-    def broken(self, root):
-        """The places and sizes of the marks, as x, y, width and height of each."""
-        marks = [found for found in root.iter() if found.get("class") == "broken"]
-        boxes = [next(found for found in mark if found.tag.endswith("rect")) for mark in marks]
-        return [tuple(float(box.get(name)) for name in ("x", "y", "width", "height")) for box in boxes]
-
-    def example(self, name):
-        """An example that has no plan, drawn."""
-        plan = words_plan((EXAMPLES / f"{name}.txt").read_text())
-        return drawing_of(plan, answer_of((EXAMPLES / f"{name}.settled").read_text()))
-
-    def test_day_that_broke(self):
-        root = self.example("no-plan")
-        # Days 0 to 6 are drawn in both panels, and day 4 is marked over all rows and the level.
-        wide, rows = plandraw.DAYS / 7, 3 * plandraw.ROW
-        first, second = self.broken(root)
-        self.assertAlmostEqual(first[0], plandraw.MARGIN + plandraw.LABELS + 4 * wide, 2)
-        self.assertAlmostEqual(first[2], wide, 2)
-        self.assertEqual(first[1:], second[1:])
-        self.assertGreater(first[3], rows + plandraw.STRIP)
-        labels = [(found.get("fill"), found.get("font-weight")) for found in root.iter() if found.text == "4"]
-        self.assertEqual(labels, [(plandraw.ALARM, "bold")] * 2)
-        texts = [found.text for found in root.iter()]
-        for words in (
-            "the day whose limit can't be kept", "When no plan was found, in pass 2", "Tasks 1 and 2 are sure there.",
-            "On day 4 at most 1 can stand on resource 70 (place 0), where 2 or more are sure.",
-        ):
-            self.assertEqual(texts.count(words), 1, words)
-        # In the ranges that the step met, the level of that day is wrong, and of no other.
-        wrong = [found for found in root.iter() if found.get("fill") == plandraw.LEVEL_WRONG]
-        self.assertEqual([(float(found.get("x")), float(found.get("width"))) for found in wrong], [(second[0], second[2])])
-        resource = next(found for found in root.iter() if found.text == "Resource 70")
-        self.assertEqual(resource.get("fill"), plandraw.ALARM)
-
-    def test_row_that_broke(self):
-        root = self.example("no-end")
-        marks, texts = self.broken(root), [found.text for found in root.iter()]
-        self.assertEqual([mark[3] for mark in marks], [plandraw.ROW - 2])
-        for words in ("the task of which a value ran out", plandraw.EMPTIED, "end"):
-            self.assertEqual(texts.count(words), 1, words)
-        label = next(found for found in root.iter() if found.text == "task 3")
-        self.assertEqual((label.get("fill"), label.get("font-weight")), (plandraw.ALARM, "bold"))
-        # its row, and all of it: from before the label to beyond the value that is named
-        value = next(found for found in root.iter() if found.text == "end")
-        x, y, width, height = marks[0]
-        self.assertTrue(x < float(label.get("x")) and float(value.get("x")) < x + width)
-        self.assertTrue(all(y < float(found.get("y")) < y + height for found in (label, value)))
-
-    def test_row_that_broke_in_each_lane(self):
-        root = drawing_of(words_plan(BOTH_WAYS), answer_of("refused 7 task 1 4\n"))
-        self.assertEqual(len(self.broken(root)), 2)
-        texts = [found.text for found in root.iter()]
-        # nothing was narrowed before, so there is one panel
-        self.assertEqual((texts.count("set"), texts.count("Before"), texts.count("narrowed")), (2, 1, 0))
-
-    def test_day_that_is_not_drawn(self):
-        root = drawing_of(words_plan(CASE9_WORDS), answer_of("refused 7 day 0 99999\n"))
-        self.assertEqual(self.broken(root), [])
-
-    def test_one_day_of_many(self):
-        task = "task on 0  origin {0}  duration 1  end {1}  height 1\n"
-        text = "at most\nresource 1 1\n" + "".join(task.format(day, day + 1) for day in (-100000, 99999, 99999))
-        (x, _, width, _), = self.broken(drawing_of(words_plan(text), answer_of("refused 7 day 0 99999\n")))
-        left = plandraw.MARGIN + plandraw.LABELS
-        self.assertTrue(width == 2 and left < x < left + plandraw.DAYS)
-
-    def test_refusals_without_reason_have_no_mark(self):
-        for line in ("refused 5 1\n", "refused 3 1\n", "refused 13 0\n"):
-            root = drawing_of(words_plan(SEASON_WORDS), answer_of(line))
-            self.assertEqual(self.broken(root), [])
-            self.assertFalse({"the day whose limit can't be kept", plandraw.EMPTIED} & {found.text for found in root.iter()})
-
-    def test_any_reason_can_be_drawn(self):
-        dice = random.Random(7)
-        for _ in range(60):
-            plan, _ = good_plan(dice)
-            reasons = [Shortfall(place, dice.randint(-12, 20)) for place in range(len(plan.resources))]
-            reasons += [Emptied(task, dice.randrange(5)) for task in range(len(plan.tasks))]
-            for reason in reasons:
-                drawing_of(plan, plansettle.Answer(refusal=7, reason=reason))
 
 
 class Command(unittest.TestCase):
@@ -1059,31 +767,6 @@ class Command(unittest.TestCase):
         self.assertIn(b"Refused with number 13 at band 2: a band out of order", out)
         self.assertIn(b"\n  band 65535 from 2147483647 limit -2147483648\n", out)
 
-    def test_settle_and_draw_no_plan(self):
-        for name, told in (
-            ("no-plan", "On day 4 at most 1 can stand on resource 70 (place 0), where 2 or more are sure.\nTasks 1 and 2 are sure there.\n"),
-            ("no-end", "Nothing is left of the end of task 3 (9..10): on resource 51 (place 0) the task, which takes 3..6 days, can't cover day 6 or day 9.\n"),
-        ):
-            words, line = EXAMPLES / f"{name}.txt", (EXAMPLES / f"{name}.settled").read_text()
-            status, out, said = run("settle", words, "--planner", self.stand_in(line))
-            self.assertEqual((status, said), (0, ""))
-            self.assertIn(f"\nRefused with number 7: a step finds no plan.\n{told}\n", out.decode())
-            status, out, said = run("draw", words, "--planner", self.stand_in(line))
-            self.assertEqual((status, said, b'class="broken"' in out), (0, "", True))
-
-    def test_reasons_about_another_plan(self):
-        for line, problem in [
-            ("refused 7 0", "{}:1: 'refused 7 0' is not one line 'refused 7 day RESOURCE DAY' or 'refused 7 task TASK VALUE'"),
-            ("refused 7 day 2 1", "{}: the answer names resource 2 and the plan has 2 resources"),
-            ("refused 7 task 2 1", "{}: the answer names task 2 and the plan has 2 tasks"),
-        ]:
-            planner = self.stand_in(line + "\n")
-            for command in ("settle", "draw"):
-                self.assertEqual(run(command, self.plan, "--planner", planner), (1, b"", problem.format(planner) + "\n"))
-        self.plan.write_bytes(CASE9_BYTES[:-1])
-        status, out, said = run("settle", self.plan, "--planner", self.stand_in("refused 7 day 0 1\n"))
-        self.assertEqual((status, out, said), (1, b"", f"{self.plan}: byte 62: cut short, a TK record takes 36 bytes and 35 are left\n"))
-
     def test_error_leaves_the_output_alone(self):
         words, out = self.folder / "w.txt", self.folder / "out.plan"
         words.write_text("at least\nresource x 1\n")
@@ -1133,21 +816,13 @@ class Command(unittest.TestCase):
         self.assertEqual(run("pack", EXAMPLES / "case9.txt"), (0, CASE9_BYTES, ""))
         self.assertEqual((EXAMPLES / "case9.settled").read_text(), CASE9_ANSWER)
 
-    def test_readme_says_what_is_printed(self):
-        readme = (TOOLS.parent / "README.md").read_text()
-        answers = {name: (EXAMPLES / f"{name}.settled").read_text() for name in ("no-plan", "no-end")}
-        text = plansettle.refused_text(words_plan((EXAMPLES / "no-plan.txt").read_text()), answer_of(answers["no-plan"]), "no-plan")
-        told = text.split("\n")[2:4]
-        for quoted in (f"\n    {answers['no-plan']}", f"`{answers['no-end'].strip()}`", "\n    {}\n    {}\n".format(*told)):
-            self.assertIn(quoted, readme)
-
     def test_example_shared_feeder(self):
         plan = words_plan((EXAMPLES / "shared-feeder.txt").read_text())
         answer = answer_of((EXAMPLES / "shared-feeder.settled").read_text())
         # Days 3 to 16 are held, by turbine 1 and the sign-off; settling puts a job on every one of them.
         for tasks, bare in ((plan.tasks, [(8, 11), (15, 17)]), (answer.tasks, [])):
-            self.assertEqual(planlevels.held_span(tasks, 0), (3, 17))
-            self.assertEqual(planlevels.bare_spans(tasks, 0), bare)
+            self.assertEqual(plandraw.held_span(tasks, 0), (3, 17))
+            self.assertEqual(plandraw.bare_spans(tasks, 0), bare)
 
     def test_examples(self):
         for words in sorted(EXAMPLES.glob("*.txt")):

@@ -257,7 +257,7 @@ impl Comparison {
             };
             let mut after = vec![0; before.len()];
             let answer = self.engine.call(step, &before, &mut after, 0);
-            let no_plan = answer.is_no_plan();
+            let no_plan = answer == Answer::refused(Refusal::NO_PLAN);
             let left = match file::read(&after) {
                 _ if no_plan => Some(0),
                 Ok(_) if after == before => Some(count),

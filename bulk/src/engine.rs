@@ -1,6 +1,5 @@
 //! The engine: its calls as include/gristwaltz.h declares them, linked or made by the program `caller`; and what they answer.
 
-use second::answer::{self, LOWER_BITS};
 use second::Refusal;
 use std::io::{Read, Write};
 use std::process::{Child, ChildStdin, ChildStdout, Command, Stdio};
@@ -27,15 +26,17 @@ impl Call {
     }
 }
 
-/// What a call answers: the refusal number times 2^32 plus the place (of refusal 7, plus the number of its reason), or, where the refusal
-/// number is 0, the pass count of settling (within so many passes 0, if they have not settled the plan), or the most passes; 0 for every
-/// other call. Two answers are compared whole, the reason with them.
+/// What a call answers: the refusal number times 2^32 plus the place, or, where the refusal number is 0, the pass count of settling (within
+/// so many passes 0, if they have not settled the plan), or the most passes; 0 for every other call.
 #[derive(Clone, Copy, Debug, PartialEq, Eq)]
 pub struct Answer(u64);
 
+/// The place of a refusal, or the number of passes, stands in so many bits below the refusal number.
+const PLACE_BITS: u32 = 32;
+
 impl Answer {
     pub fn refused(refusal: Refusal) -> Answer {
-        Answer(answer::of_refusal(refusal))
+        Answer((u64::from(refusal.number) << PLACE_BITS) + refusal.place as u64)
     }
 
     /// A success that counts no passes: of settling within so many, that they have not settled the plan.
@@ -47,16 +48,7 @@ impl Answer {
 
     /// The refusal number, 0 if it is none.
     pub fn number(self) -> u32 {
-        (self.0 >> LOWER_BITS) as u32
-    }
-
-    /// The refusal with its place or reason, if it is one.
-    pub fn refusal(self) -> Option<Refusal> {
-        answer::refusal(self.0)
-    }
-
-    pub fn is_no_plan(self) -> bool {
-        self.number() == Refusal::NO_PLAN
+        (self.0 >> PLACE_BITS) as u32
     }
 
     /// The same with so many passes made before it; a refusal counts none.
@@ -72,18 +64,19 @@ impl Answer {
         self.0 > passes
     }
 
+    fn place_or_passes(self) -> u32 {
+        self.0 as u32
+    }
+
     pub fn words(self, call: Call) -> String {
-        if let Some(refusal) = self.refusal() {
-            return refusal.to_string();
-        }
-        let rest = self.0 as u32;
+        let rest = self.place_or_passes();
         match (self.number(), call) {
             (0, Call::MostPasses) => format!("at most {rest} passes"),
             (0, Call::Within(_)) if rest == 0 => "not settled yet".to_string(),
             (0, Call::Settle | Call::Within(_)) => format!("settled after {rest} passes"),
             (0, _) if rest == 0 => "done".to_string(),
             (0, _) => format!("done, with {rest} where 0 is due"),
-            (number, _) => format!("refused {number}, with {rest} where a reason is due"),
+            (number, _) => Refusal::new(number, rest as usize).to_string(),
         }
     }
 }

@@ -1,7 +1,7 @@
-//! How many comparisons of each kind were made, and which answers and reasons came up.
+//! How many comparisons of each kind were made.
 
 use crate::engine::{Answer, Call};
-use second::{At, Reason, Refusal, Value};
+use second::Refusal;
 
 /// What is compared.
 #[derive(Clone, Copy, Debug, PartialEq, Eq)]
@@ -25,7 +25,7 @@ pub enum Kind {
 const LINES: [(Kind, &str); 13] = [
     (
         Kind::Settle,
-        "settle: answer, place, reason or passes, whole output",
+        "settle: answer, place or passes, whole output",
     ),
     (Kind::Check, "check"),
     (Kind::Balance, "balance"),
@@ -78,46 +78,6 @@ pub struct Tally {
     kinds: [u64; LINES.len()],
     /// Settle's answers by refusal number; 0 is "settled".
     answers: [u64; ANSWERS],
-    /// The reasons that settle gives, and those that resource steps by themselves give.
-    settling: Reasons,
-    steps: Reasons,
-}
-
-/// How often "no plan" had which reason.
-#[derive(Clone, Default)]
-struct Reasons {
-    days: u64,
-    /// Emptied values by their number.
-    values: [u64; Value::IN_ORDER.len()],
-}
-
-impl Reasons {
-    fn count(&mut self, at: Option<At>) {
-        match at {
-            Some(At::Reason(Reason::Shortfall { .. })) => self.days += 1,
-            Some(At::Reason(Reason::Emptied { value, .. })) => self.values[value.number()] += 1,
-            _ => (),
-        }
-    }
-
-    fn add(&mut self, other: &Reasons) {
-        self.days += other.days;
-        add_each(&mut self.values, &other.values);
-    }
-
-    fn words(&self) -> String {
-        let values = Value::IN_ORDER.iter().zip(self.values);
-        let values: Vec<String> = values
-            .map(|(value, count)| format!("{value:?} {count}").to_lowercase())
-            .collect();
-        format!("day {}; task {}", self.days, values.join(", "))
-    }
-}
-
-fn add_each(mine: &mut [u64], theirs: &[u64]) {
-    for (mine, theirs) in mine.iter_mut().zip(theirs) {
-        *mine += theirs;
-    }
 }
 
 impl Tally {
@@ -136,14 +96,8 @@ impl Tally {
             Call::MostPasses => Kind::MostPasses,
             Call::Within(_) => Kind::Within,
         });
-        let reason = answer.refusal().map(|refusal| refusal.at);
-        match call {
-            Call::Settle => {
-                self.answers[answer.number() as usize] += 1;
-                self.settling.count(reason);
-            }
-            Call::Step(_) => self.steps.count(reason),
-            _ => (),
+        if call == Call::Settle {
+            self.answers[answer.number() as usize] += 1;
         }
     }
 
@@ -151,10 +105,11 @@ impl Tally {
         self.plans += other.plans;
         self.banded += other.banded;
         self.held += other.held;
-        add_each(&mut self.kinds, &other.kinds);
-        add_each(&mut self.answers, &other.answers);
-        self.settling.add(&other.settling);
-        self.steps.add(&other.steps);
+        let kinds = self.kinds.iter_mut().zip(&other.kinds);
+        let answers = self.answers.iter_mut().zip(&other.answers);
+        for (mine, theirs) in kinds.chain(answers) {
+            *mine += theirs;
+        }
     }
 
     pub fn report(&self, seconds: f64) -> String {
@@ -171,8 +126,6 @@ impl Tally {
             self.answers[0],
             refusals.join(", ")
         );
-        text += &format!("settle's reasons: {}\n", self.settling.words());
-        text += &format!("resource steps' reasons: {}\n", self.steps.words());
         let total: u64 = self.kinds.iter().sum();
         let rate = |count: u64| (count as f64 / seconds) as u64;
         text += &format!(

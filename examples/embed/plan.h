@@ -1,4 +1,4 @@
-/* Plan files written into memory, record by record, for the C examples, and four plans. Each function returns the place after
+/* Plan files written into memory, record by record, for the C examples, and three plans. Each function returns the place after
  * what it wrote: after the last record that is the file's length. */
 #ifndef EXAMPLES_PLAN_H
 #define EXAMPLES_PLAN_H
@@ -37,12 +37,6 @@ static inline size_t case_nine(uint8_t *file) {
     size_t at = resource(file, resource(file, header(file, 1, 2, 2), 7, 4), 9, 3);
     at = task(file, at, 1, (const int32_t[8]){1, 2, 2, 2, 3, 4, 0, 1});
     return task(file, at, 3, (const int32_t[8]){0, 6, 2, 2, 2, 8, 0, 4});
-}
-
-/* a task of 1 day from day 5 that is to end on day 7 */
-static inline size_t case_four(uint8_t *file) {
-    size_t at = resource(file, header(file, 1, 1, 1), 7, 0);
-    return task(file, at, 1, (const int32_t[8]){5, 5, 1, 1, 7, 7, 0, 0});
 }
 
 /* 2 are due, and two tasks have them on days 1 and 2 and on days 5 and 6; days 3 and 4 are bare */

@@ -1,5 +1,5 @@
-/* Settles case 9 of the page through the C boundary, by one call and pass by pass, case 6 on a plain and on a held resource, case 4, which has
- * no plan, then another that has none: the host tells why, and its output buffer has to be as it was.
+/* Settles case 9 of the page through the C boundary, by one call and pass by pass, case 6 on a plain and on a held resource, then a plan that
+ * has none: its output buffer has to be as it was.
  * Built and run by tests/40-embed; by hand: cc -Iinclude examples/embed/settle.c "$(tools/archive)" -o /tmp/embed && /tmp/embed, in the repository */
 #include <stdio.h>
 #include <string.h>
@@ -18,16 +18,6 @@ static unsigned settle_by_passes(uint8_t *file, size_t length) {
     }
 }
 
-/* Why there is no plan: a day on which a resource can't keep its limit, or a value of a task of which nothing is left. */
-static void tell_reason(const char *name, uint64_t answer) {
-    static const char *const values[] = {"origin", "duration", "end", "height", "resource set"};
-    uint32_t place = gristwaltz_reason_place(answer);
-    printf("%s: refusal %u", name, gristwaltz_refusal(answer));
-    if (gristwaltz_reason(answer) == GRISTWALTZ_REASON_DAY) printf(", resource %u can't keep its limit on day %d\n", place, gristwaltz_reason_day(answer));
-    else if (gristwaltz_reason(answer) == GRISTWALTZ_REASON_TASK) printf(", nothing is left of the %s of task %u\n", values[gristwaltz_reason_value(answer)], place);
-    else printf(", no reason\n");
-}
-
 int main(void) {
     uint8_t file[GRISTWALTZ_LONGEST_FILE], out[GRISTWALTZ_LONGEST_FILE], before[GRISTWALTZ_LONGEST_FILE];
 
@@ -41,15 +31,14 @@ int main(void) {
     answer = gristwaltz_settle(file, length, out, sizeof out);
     printf("case 6, a plain resource: refusal %u, %u passes\n", gristwaltz_refusal(answer), gristwaltz_passes(answer));
     length = case_six(file, "RH");
-    tell_reason("case 6, a held one", gristwaltz_settle(file, length, out, sizeof out));
-    length = case_four(file);
-    tell_reason("case 4", gristwaltz_settle(file, length, out, sizeof out));
+    answer = gristwaltz_settle(file, length, out, sizeof out);
+    printf("case 6, a held one: refusal %u, place %u\n", gristwaltz_refusal(answer), gristwaltz_place(answer));
 
     length = without_plan(file);
     memset(out, 0xa5, sizeof out);
     memcpy(before, out, sizeof out);
-    tell_reason("no plan", gristwaltz_settle(file, length, out, sizeof out));
-    printf("the output is %s\n", memcmp(out, before, sizeof out) ? "changed" : "as it was");
+    answer = gristwaltz_settle(file, length, out, sizeof out);
+    printf("no plan: refusal %u, place %u; output %s\n", gristwaltz_refusal(answer), gristwaltz_place(answer), memcmp(out, before, sizeof out) ? "changed" : "as it was");
 
     answer = gristwaltz_check(file, 5);
     printf("cut short: refusal %u, place %u\n", gristwaltz_refusal(answer), gristwaltz_place(answer));

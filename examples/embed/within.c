@@ -79,8 +79,7 @@ int main(void) {
     memset(plan.other, 0xa5, GRISTWALTZ_LONGEST_FILE);
     memcpy(kept, plan.other, sizeof kept);
     answer = gristwaltz_settle_within(plan.file, plan.length, MOST, plan.other, GRISTWALTZ_LONGEST_FILE);
-    printf("no plan: refusal %u, kind of reason %u: resource %u, day %d; ", gristwaltz_refusal(answer), gristwaltz_reason(answer), gristwaltz_reason_place(answer), gristwaltz_reason_day(answer));
-    printf("output %s\n", memcmp(plan.other, kept, sizeof kept) ? "changed" : "as it was");
+    printf("no plan: refusal %u, place %u; output %s\n", gristwaltz_refusal(answer), gristwaltz_place(answer), memcmp(plan.other, kept, sizeof kept) ? "changed" : "as it was");
 
     answer = gristwaltz_most_passes(plan.file, 5);
     printf("cut short: refusal %u, place %u\n", gristwaltz_refusal(answer), gristwaltz_place(answer));

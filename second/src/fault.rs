@@ -1,5 +1,5 @@
 //! The "Errors that look right" of document 01, errors of the bands, one of the pass, errors of request 6, errors that request 3's counts
-//! of ones and trailing zeros invite, errors of the held resources, and errors in the order of request 5's reasons, each to be planted alone.
+//! of ones and trailing zeros invite, and errors of the held resources, each to be planted alone.
 
 /// A planted error. The rules without one take `None`.
 #[derive(Clone, Copy, Debug, PartialEq, Eq)]
@@ -49,12 +49,6 @@ pub enum Fault {
     ZeroLeftOut,
     /// A task that could go elsewhere holds days too, where "one task with only that resource" is asked for: plans are lost.
     HeldElsewhere,
-    /// "earliest day first" turned round: of a step's short days the latest is given.
-    LatestShortDay,
-    /// "tasks in list order" turned round: of a step's tasks that lost all of a value the last is given. Balance has it too.
-    LastEmptied,
-    /// The resource set looked at before the ranges, where "resource set" comes last.
-    SetFirst,
 }
 
 /// Every fault with the name the command line knows it by.
@@ -77,9 +71,6 @@ pub const FAULTS: &[(&str, Fault)] = &[
     ("held-as-plain", Fault::HeldAsPlain),
     ("zero-left-out", Fault::ZeroLeftOut),
     ("held-elsewhere", Fault::HeldElsewhere),
-    ("latest-short-day", Fault::LatestShortDay),
-    ("last-emptied", Fault::LastEmptied),
-    ("set-first", Fault::SetFirst),
 ];
 
 pub fn names() -> Vec<&'static str> {

@@ -2,7 +2,6 @@
 
 use crate::fault::Fault;
 use crate::plan::{Range, Set, Task};
-use crate::reason::{Reason, Value};
 use crate::refusal::Refusal;
 
 /// "the new set or range keeps what every rule leaves".
@@ -26,39 +25,20 @@ impl Left {
         }
     }
 
-    /// The task at this place with what is left. "A set or range left empty means no plan", and the
-    /// first of them is the reason: "values are taken as origin, duration, end, height, resource set".
-    pub fn task(&self, place: usize, fault: Option<Fault>) -> Result<Task, Refusal> {
-        let emptied = |value| Refusal::no_plan(Reason::Emptied { task: place, value });
-        let range = |values: &Values, value| values.left(fault).ok_or(emptied(value));
-        if self.set == Set::EMPTY && fault == Some(Fault::SetFirst) {
-            return Err(emptied(Value::Set));
+    /// The task with what is left. "A set or range left empty means no plan."
+    pub fn task(&self, fault: Option<Fault>) -> Result<Task, Refusal> {
+        if self.set == Set::EMPTY {
+            return Err(Refusal::NO_PLAN);
         }
-        let task = Task {
-            origin: range(&self.origin, Value::Origin)?,
-            duration: range(&self.duration, Value::Duration)?,
-            end: range(&self.end, Value::End)?,
-            height: range(&self.height, Value::Height)?,
+        let range = |values: &Values| values.left(fault).ok_or(Refusal::NO_PLAN);
+        Ok(Task {
             set: self.set,
-        };
-        if task.set == Set::EMPTY {
-            return Err(emptied(Value::Set));
-        }
-        Ok(task)
+            origin: range(&self.origin)?,
+            duration: range(&self.duration)?,
+            end: range(&self.end)?,
+            height: range(&self.height)?,
+        })
     }
-}
-
-/// All tasks of a step, or the first reason among them: "tasks in list order".
-pub fn in_list_order(
-    tasks: impl DoubleEndedIterator<Item = Result<Task, Refusal>>,
-    fault: Option<Fault>,
-) -> Result<Vec<Task>, Refusal> {
-    if fault != Some(Fault::LastEmptied) {
-        return tasks.collect();
-    }
-    let mut list: Vec<Task> = tasks.rev().collect::<Result<_, _>>()?;
-    list.reverse();
-    Ok(list)
 }
 
 /// Every value of a range, and which of them the rules have barred.

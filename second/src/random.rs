@@ -12,7 +12,6 @@ pub struct Random {
 pub enum Aside {
     Bands,
     Kinds,
-    Reasons,
 }
 
 impl Random {
@@ -31,7 +30,6 @@ impl Random {
         let apart = match of {
             Aside::Bands => 0x6C62_272E_07BB_0142,
             Aside::Kinds => 0x62B8_2175_6295_C58D,
-            Aside::Reasons => 0x27D4_EB2F_1656_67C5,
         };
         Random {
             state: self.state ^ apart,

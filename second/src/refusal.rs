@@ -1,22 +1,12 @@
-//! Numbered refusals: the table of document 01 and the numbers of document 02, each with its place, or with its reason.
+//! Numbered refusals: the table of document 01 and the numbers of document 02, each with its place.
 
-use crate::reason::Reason;
 use std::fmt;
 
-/// A numbered refusal and where it is given.
+/// A numbered refusal and its place; "Places count from 0."
 #[derive(Clone, Copy, Debug, PartialEq, Eq)]
 pub struct Refusal {
     pub number: u32,
-    pub at: At,
-}
-
-/// Where a refusal is given.
-#[derive(Clone, Copy, Debug, PartialEq, Eq)]
-pub enum At {
-    /// "Places count from 0."
-    Place(usize),
-    /// "With refusal 7 give the first reason", "instead of its place 0".
-    Reason(Reason),
+    pub place: usize,
 }
 
 /// One name a line: its number, "given exactly when", and its place.
@@ -47,16 +37,8 @@ impl Refusal {
         Refusal::new(6, task)
     }
 
-    /// The number of "a step finds no plan".
-    pub const NO_PLAN: u32 = 7;
-
-    /// "a step finds no plan", and why
-    pub const fn no_plan(reason: Reason) -> Refusal {
-        Refusal {
-            number: Refusal::NO_PLAN,
-            at: At::Reason(reason),
-        }
-    }
+    /// "a step finds no plan"
+    pub const NO_PLAN: Refusal = Refusal::new(7, 0);
 
     /// "in a file: not the mark that is due, or a sense byte above 1"; place
     /// "byte where the record starts"
@@ -89,25 +71,13 @@ impl Refusal {
     pub const LAST_NUMBER: u32 = Refusal::band_outside(0).number;
 
     pub const fn new(number: u32, place: usize) -> Refusal {
-        Refusal {
-            number,
-            at: At::Place(place),
-        }
-    }
-
-    pub fn is_no_plan(&self) -> bool {
-        self.number == Refusal::NO_PLAN
+        Refusal { number, place }
     }
 }
 
-/// "`refused`, number, place, with single spaces"; "the program's line for 7 gains"
-/// the words of its reason "instead of its place 0".
+/// "`refused`, number, place, with single spaces, as `refused 7 0`."
 impl fmt::Display for Refusal {
     fn fmt(&self, out: &mut fmt::Formatter) -> fmt::Result {
-        write!(out, "refused {} ", self.number)?;
-        match self.at {
-            At::Place(place) => write!(out, "{place}"),
-            At::Reason(reason) => write!(out, "{reason}"),
-        }
+        write!(out, "refused {} {}", self.number, self.place)
     }
 }

@@ -12,9 +12,8 @@
 //! rules for bar and height stay."
 
 use crate::fault::Fault;
-use crate::left::{in_list_order, Left};
+use crate::left::Left;
 use crate::plan::{Kind, Plan, Range, Set, Task};
-use crate::reason::Reason;
 use crate::refusal::Refusal;
 
 /// "Resource step, sense at least, resource r, limit L, day i": what its rules
@@ -39,29 +38,15 @@ struct Day {
 }
 
 impl Step<'_> {
-    /// The tasks as the step leaves them. "Inside a resource step shortfalls come before
-    /// emptied values, earliest day first, then tasks in list order".
+    /// The tasks as the step leaves them.
     pub fn tasks(&self) -> Result<Vec<Task>, Refusal> {
         let days = self.days();
-        if let Some(day) = self.short_day(&days) {
-            let (resource, day) = (self.place, day.number);
-            return Err(Refusal::no_plan(Reason::Shortfall { resource, day }));
+        // Shortfall: the day counts "and all hopes together are below L: no plan."
+        if days.iter().any(|day| day.counts && day.hopes < day.limit) {
+            return Err(Refusal::NO_PLAN);
         }
-        let tasks = self.plan.tasks.iter().enumerate();
-        let narrowed = tasks.map(|(place, task)| self.left_of(task, &days).task(place, self.fault));
-        in_list_order(narrowed, self.fault)
-    }
-
-    /// Shortfall: the day counts "and all hopes together are below L: no plan." The
-    /// earliest such day.
-    fn short_day<'a>(&self, days: &'a [Day]) -> Option<&'a Day> {
-        let mut short = days
-            .iter()
-            .filter(|day| day.counts && day.hopes < day.limit);
-        match self.fault {
-            Some(Fault::LatestShortDay) => short.next_back(),
-            _ => short.next(),
-        }
+        let narrowed = |task| self.narrowed(task, &days);
+        self.plan.tasks.iter().map(narrowed).collect()
     }
 
     /// Every day from the least origin low to the greatest end high: no task is
@@ -206,9 +191,8 @@ impl Step<'_> {
 
     // ---- What the rules leave of a task ----
 
-    /// "All days and rules are joined: the new set or range keeps what every rule leaves." So
-    /// nothing is said to be emptied until every day has been looked at.
-    fn left_of(&self, task: &Task, days: &[Day]) -> Left {
+    /// "All days and rules are joined: the new set or range keeps what every rule leaves."
+    fn narrowed(&self, task: &Task, days: &[Day]) -> Result<Task, Refusal> {
         let mut left = Left::all_of(task);
         // Each rule below speaks only of a task possible on i or sure on i.
         let spoken_of =
@@ -219,7 +203,7 @@ impl Step<'_> {
             self.bar(task, day, others, &mut left);
             self.height(task, day, others, &mut left);
         }
-        left
+        left.task(self.fault)
     }
 
     /// Need: the day counts, "and a task possible on i with positive highest height

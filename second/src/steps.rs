@@ -6,27 +6,24 @@
 
 use crate::entry;
 use crate::fault::Fault;
-use crate::left::{in_list_order, Left};
+use crate::left::Left;
 use crate::plan::*;
 use crate::refusal::Refusal;
 use crate::rules::Step;
 
 /// The balance step.
-pub fn balance(plan: &mut Plan, fault: Option<Fault>) -> Result<(), Refusal> {
+pub fn balance(plan: &mut Plan) -> Result<(), Refusal> {
     entry::check(plan)?;
-    plan.tasks = balanced(&plan.tasks, fault)?;
+    plan.tasks = balanced(&plan.tasks)?;
     Ok(())
 }
 
 /// "Balance. For every task": each range cut by the two others.
-fn balanced(tasks: &[Task], fault: Option<Fault>) -> Result<Vec<Task>, Refusal> {
-    let tasks = tasks.iter().enumerate();
-    let balanced = tasks.map(|(place, task)| balanced_left(task).task(place, None));
-    in_list_order(balanced, fault)
+fn balanced(tasks: &[Task]) -> Result<Vec<Task>, Refusal> {
+    tasks.iter().map(balanced_task).collect()
 }
 
-/// What balance leaves of a task.
-fn balanced_left(task: &Task) -> Left {
+fn balanced_task(task: &Task) -> Result<Task, Refusal> {
     let mut left = Left::all_of(task);
     // "origin is cut to (end low - duration high) .. (end high - duration low)"
     left.origin.keep_within(task.end.minus(task.duration));
@@ -34,7 +31,7 @@ fn balanced_left(task: &Task) -> Left {
     left.end.keep_within(task.origin.plus(task.duration));
     // "duration to (end low - origin high) .. (end high - origin low)"
     left.duration.keep_within(task.end.minus(task.origin));
-    left
+    left.task(None)
 }
 
 /// The resource step for the resource at `place`.
@@ -77,7 +74,7 @@ fn passed(
     fault: Option<Fault>,
 ) -> Result<Vec<Task>, Refusal> {
     let mut passed = plan.clone();
-    passed.tasks = balanced(&passed.tasks, fault)?;
+    passed.tasks = balanced(&passed.tasks)?;
     let stride = match fault {
         Some(Fault::NeighbourSkipped) => 2,
         _ => 1,

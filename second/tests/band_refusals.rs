@@ -32,7 +32,7 @@ fn refused<T>(number: u32, place: usize) -> Result<T, Refusal> {
 fn every_call_refuses(plan: &Plan, number: u32, place: usize) {
     assert_eq!(entry::check(plan), refused(number, place));
     let mut after = plan.clone();
-    assert_eq!(balance(&mut after, None), refused(number, place));
+    assert_eq!(balance(&mut after), refused(number, place));
     assert_eq!(resource_step(&mut after, 99, None), refused(number, place));
     assert_eq!(pass(&mut after, None), refused(number, place));
     assert_eq!(settle(&mut after, None), refused(number, place));

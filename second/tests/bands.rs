@@ -3,7 +3,7 @@
 mod support;
 
 use second::steps::settle;
-use second::{allowed, file, program, words, Plan, Sense, Task};
+use second::{allowed, file, program, words, Plan, Refusal, Sense, Task};
 use support::*;
 
 /// Settles in so many passes, with these tasks, and has so many allowed plans before and after.
@@ -25,7 +25,7 @@ fn stays(plan: Plan, count: u64) {
 /// No plan.
 fn refuses(plan: Plan) {
     let mut after = plan.clone();
-    assert!(is_no_plan(&settle(&mut after, None)));
+    assert_eq!(settle(&mut after, None), Err(Refusal::new(7, 0)));
     assert_eq!(after, plan);
     assert_eq!(allowed::count(&plan), Ok(0));
 }

@@ -3,7 +3,7 @@
 mod support;
 
 use second::steps::{pass, settle};
-use second::{allowed, file, program, Plan, Reason, Sense, Value};
+use second::{allowed, file, program, Plan, Refusal, Sense};
 use support::*;
 
 fn settles(mut plan: Plan, passes: u64) -> Plan {
@@ -16,9 +16,9 @@ fn stays(plan: Plan, passes: u64) {
     assert_eq!(settles(plan.clone(), passes), plan);
 }
 
-fn refuses(plan: Plan, reason: Reason) {
+fn refuses(plan: Plan) {
     let mut after = plan.clone();
-    assert_eq!(settle(&mut after, None), no_plan(reason));
+    assert_eq!(settle(&mut after, None), Err(Refusal::new(7, 0)));
     assert_eq!(
         after, plan,
         "on a refusal the task list keeps its entry contents"
@@ -33,7 +33,7 @@ fn case_1_no_task() {
 
 #[test]
 fn case_2_one_task_below_and_at_the_limit() {
-    refuses(at_least(0, &[single(5, 1, 6, -1)]), short(0, 5));
+    refuses(at_least(0, &[single(5, 1, 6, -1)]));
     stays(at_least(0, &[single(5, 1, 6, 0)]), 1);
 }
 
@@ -44,8 +44,7 @@ fn case_3_duration_0_covers_no_day() {
 
 #[test]
 fn case_4_origin_and_duration_miss_the_end() {
-    let missed = at_least(0, &[single(5, 1, 7, 0)]);
-    refuses(missed, emptied(0, Value::Origin));
+    refuses(at_least(0, &[single(5, 1, 7, 0)]));
 }
 
 #[test]
@@ -58,7 +57,7 @@ fn case_5_at_most() {
         )
     };
     stays(two(2), 1);
-    refuses(two(3), short(0, 1));
+    refuses(two(3));
 }
 
 #[test]
@@ -117,6 +116,6 @@ fn refusal_output() {
     let plan = at_least(0, &[single(5, 1, 6, -1)]);
     assert_eq!(
         program::answer(&file::unchecked_bytes(&plan), None),
-        "refused 7 day 0 5\n"
+        "refused 7 0\n"
     );
 }

@@ -25,7 +25,7 @@ fn stays(plan: Plan, count: u64) {
 /// No plan.
 fn refuses(plan: Plan) {
     let mut after = plan.clone();
-    assert!(is_no_plan(&settle(&mut after, None)));
+    assert_eq!(settle(&mut after, None), Err(Refusal::new(7, 0)));
     assert_eq!(after, plan);
     assert_eq!(allowed::count(&plan), Ok(0));
 }
@@ -225,7 +225,7 @@ fn a_task_that_is_barred_elsewhere() {
     let mut after = entry.clone();
     assert_eq!(pass(&mut after, None), Ok(()));
     assert_eq!(after.tasks, left);
-    assert_eq!(pass(&mut after, None), no_plan(short(0, 1)));
+    assert_eq!(pass(&mut after, None), Err(Refusal::new(7, 0)));
     refuses(entry);
 }
 
@@ -347,7 +347,7 @@ fn the_step_of_a_held_resource() {
     let entry = with_held(plan(Sense::AtLeast, &[1, 1], &tasks), &[1]);
     let mut after = entry.clone();
     assert_eq!(resource_step(&mut after, 0, None), Ok(()));
-    assert_eq!(resource_step(&mut after, 1, None), no_plan(short(1, 0)));
+    assert_eq!(resource_step(&mut after, 1, None), Err(Refusal::new(7, 0)));
     assert_eq!(resource_step(&mut after, 2, None), Err(Refusal::new(12, 0)));
     assert_eq!(after, entry);
 }
@@ -395,12 +395,12 @@ fn settled(plan: &Plan, fault: Fault) -> Result<u64, Refusal> {
 /// Each hides a shortfall, or sees one where plans are allowed; where nothing is held nothing is wrong.
 #[test]
 fn errors_of_held_resources() {
+    let no_plan = Err(Refusal::new(7, 0));
     let case_6 = held(2, &[single(1, 2, 3, 2), single(5, 2, 7, 2)]);
     let zeros = held(1, &posts());
     assert_eq!(settled(&case_6, Fault::HeldAsPlain), Ok(1));
     assert_eq!(settled(&zeros, Fault::HeldAsPlain), Ok(1));
-    let wrong = settled(&case_6, Fault::ZeroLeftOut);
-    assert_eq!(wrong, no_plan(short(0, 3)));
+    assert_eq!(settled(&case_6, Fault::ZeroLeftOut), no_plan);
     assert_eq!(settled(&zeros, Fault::ZeroLeftOut), Ok(1));
     let elsewhere = Task {
         set: Set(3),
@@ -410,6 +410,5 @@ fn errors_of_held_resources() {
     assert_eq!(settled(&entry, Fault::HeldElsewhere), Ok(1));
     let entry = with_held(entry, &[0]);
     assert_eq!(allowed::count(&entry), Ok(1));
-    let wrong = settled(&entry, Fault::HeldElsewhere);
-    assert_eq!(wrong, no_plan(short(0, 0)));
+    assert_eq!(settled(&entry, Fault::HeldElsewhere), no_plan);
 }

@@ -112,7 +112,7 @@ fn marks_swapped() {
 #[test]
 fn kinds_stay() {
     let mut plan = sound();
-    assert_eq!(balance(&mut plan, None), Ok(()));
+    assert_eq!(balance(&mut plan), Ok(()));
     assert_eq!(resource_step(&mut plan, 1, None), Ok(()));
     assert_eq!(pass(&mut plan, None), Ok(()));
     assert_eq!(settle_within(&mut plan, 1, None), Ok(Some(1)));

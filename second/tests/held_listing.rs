@@ -5,7 +5,7 @@ mod support;
 
 use second::random::Random;
 use second::steps::{balance, pass, resource_step, settle};
-use second::{allowed, Band, Fault, Kind, Plan, Range, Reason, Refusal, Sense, Set, Task, Value};
+use second::{allowed, Band, Fault, Kind, Plan, Range, Refusal, Sense, Set, Task};
 use support::*;
 
 /// A plan small enough to list: on the first resource, which is held, two tasks at the ends, of duration 0 or not; one or two that may
@@ -77,7 +77,7 @@ struct Tried {
 fn step(plan: &mut Plan, random: &mut Random, tried: &mut Tried) -> Result<(), Refusal> {
     let (kind, place) = (random.within(0, 3), random.place(plan.resources.len()));
     let made = |plan: &mut Plan, fault| match kind {
-        0 => balance(plan, fault),
+        0 => balance(plan),
         1 => pass(plan, fault),
         _ => resource_step(plan, place, fault),
     };
@@ -100,7 +100,7 @@ fn every_step_keeps_the_number_of_allowed_plans() {
             let before = plan.clone();
             let result = step(&mut plan, random, &mut tried);
             if result.is_err() {
-                assert!(is_no_plan(&result));
+                assert_eq!(result, Err(Refusal::NO_PLAN));
                 assert_eq!(count, 0, "a step found no plan, listing did: {entry:?}");
                 assert_eq!(plan, before);
                 tried.no_plan += 1;
@@ -175,18 +175,15 @@ fn is_broken_on(plan: &Plan, place: usize, day: i64) -> bool {
     is_checked && !holds
 }
 
-/// Where the one choice that there is breaks a rule first, if it does: in balance, task by task; then resource by resource, day by day.
-fn first_broken(plan: &Plan) -> Option<Reason> {
+/// Whether the one choice that there is breaks a rule.
+fn is_broken(plan: &Plan) -> bool {
     let ends_fit = |task: &Task| task.origin.low + task.duration.low == task.end.low;
-    let unfit = plan.tasks.iter().position(|task| !ends_fit(task));
     let places = 0..plan.resources.len();
     let mut days = places.flat_map(|place| (-9..=20).map(move |day| (place, day)));
-    let broken = days.find(|(place, day)| is_broken_on(plan, *place, *day));
-    let short = broken.map(|(place, day)| short(place, day));
-    unfit.map(|task| emptied(task, Value::Origin)).or(short)
+    !plan.tasks.iter().all(ends_fit) || days.any(|(place, day)| is_broken_on(plan, place, day))
 }
 
-/// A pass, settling and listing all say so, the two with the reason; a held resource decides often enough.
+/// A pass, settling and listing all say so; a held resource decides often enough.
 #[test]
 fn single_values_a_pass_refuses_exactly_what_breaks_a_rule() {
     let (mut broken, mut stands, mut by_held_days) = (0, 0, 0);
@@ -196,18 +193,22 @@ fn single_values_a_pass_refuses_exactly_what_breaks_a_rule() {
             0 => single_value_plan(random),
             _ => fixed(random),
         };
-        let reason = first_broken(&entry);
-        let due = reason.map_or(Ok(1), no_plan);
+        let is_broken = is_broken(&entry);
+        let due = if is_broken {
+            Err(Refusal::NO_PLAN)
+        } else {
+            Ok(1)
+        };
         let mut plan = entry.clone();
         assert_eq!(pass(&mut plan, None), due.map(|_| ()), "{entry:?}");
         assert_eq!(settle(&mut plan, None), due, "{entry:?}");
         assert_eq!(plan, entry);
         assert_eq!(
             allowed::count(&entry),
-            Ok(u64::from(reason.is_none())),
+            Ok(u64::from(!is_broken)),
             "{entry:?}"
         );
-        if reason.is_some() {
+        if is_broken {
             broken += 1;
             by_held_days += u32::from(pass(&mut plan, Some(Fault::HeldAsPlain)).is_ok());
         } else {

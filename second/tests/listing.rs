@@ -4,20 +4,20 @@ mod support;
 
 use second::random::Random;
 use second::steps::{balance, pass, resource_step, settle};
-use second::{allowed, file, make, Plan};
+use second::{allowed, file, make, Plan, Refusal};
 use support::*;
 
 /// One step picked at random; true if it found no plan.
 fn random_step(random: &mut Random, plan: &mut Plan) -> bool {
     let result = match random.within(0, 3) {
-        0 => balance(plan, None),
+        0 => balance(plan),
         1 => pass(plan, None),
         _ => {
             let place = random.place(plan.resources.len());
             resource_step(plan, place, None)
         }
     };
-    assert!(result.is_ok() || is_no_plan(&result));
+    assert!(matches!(result, Ok(()) | Err(Refusal::NO_PLAN)));
     result.is_err()
 }
 

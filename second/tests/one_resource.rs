@@ -16,9 +16,9 @@ fn settled(entry: &Plan, fault: Option<Fault>) -> Settled {
     (settle(&mut plan, fault), plan.tasks)
 }
 
-/// "no plan" for a short day, and the tasks as they entered.
-fn falls_short(entry: &Plan, resource: usize, day: i64) -> Settled {
-    (no_plan(short(resource, day)), entry.tasks.clone())
+/// "no plan", and the tasks as they entered.
+fn no_plan(entry: &Plan) -> Settled {
+    (Err(Refusal::new(7, 0)), entry.tasks.clone())
 }
 
 /// A task that covers day 5 alone.
@@ -43,8 +43,7 @@ fn lowest_only() {
     let fault = Some(Fault::LowestOnly);
     let left_on = |place| (Ok(2), vec![on_day_5(Set::only(place), -1, -1)]);
     assert_eq!(settled(&too_low_at(1), None), left_on(3));
-    let wrong = settled(&too_low_at(1), fault);
-    assert_eq!(wrong, falls_short(&too_low_at(1), 1, 5));
+    assert_eq!(settled(&too_low_at(1), fault), no_plan(&too_low_at(1)));
     assert_eq!(settled(&too_low_at(3), None), left_on(1));
     assert_eq!(settled(&too_low_at(3), fault), left_on(1));
 }
@@ -76,7 +75,7 @@ fn zeros_counted_lift_no_height() {
 fn zeros_counted_see_no_shortfall() {
     let tasks = [single(1, 1, 2, 2), single(1, 1, 2, 3)];
     let entry = plan(Sense::AtMost, &[4], &tasks);
-    assert_eq!(settled(&entry, None), falls_short(&entry, 0, 1));
+    assert_eq!(settled(&entry, None), no_plan(&entry));
     let wrong = settled(&entry, Some(Fault::ZerosCounted));
     assert_eq!(wrong, (Ok(1), entry.tasks));
 }

@@ -26,9 +26,9 @@ fn settled(entry: &Plan) -> Left<u64> {
     (settle(&mut plan, None), plan.tasks)
 }
 
-/// "no plan", since the first resource is short on day 5, and the tasks as they entered.
-fn short_on_day_5<T>(entry: &Plan) -> Left<T> {
-    (no_plan(short(0, 5)), entry.tasks.clone())
+/// "no plan", and the tasks as they entered.
+fn no_plan<T>(entry: &Plan) -> Left<T> {
+    (Err(Refusal::new(7, 0)), entry.tasks.clone())
 }
 
 // ---- The bound ----
@@ -50,7 +50,7 @@ fn single_values() {
     let fails = at_least(0, &[single(5, 1, 6, -1)]);
     assert_eq!(bound(&fails), 1, "the bound takes no step");
     assert_eq!(within(&fails, 0), (Ok(None), fails.tasks.clone()));
-    assert_eq!(within(&fails, 1), short_on_day_5(&fails));
+    assert_eq!(within(&fails, 1), no_plan(&fails));
 }
 
 /// One range open, the three others single, whether they fit each other or not; values below 0, on both sides of it and at their ends.
@@ -170,9 +170,9 @@ fn no_plan_in_the_second_pass() {
     assert_eq!(within(&entry, 0), (Ok(None), entry.tasks.clone()));
     assert_eq!(within(&entry, 1), (Ok(None), after));
     for most in [2, bound(&entry), 4, u64::MAX] {
-        assert_eq!(within(&entry, most), short_on_day_5(&entry));
+        assert_eq!(within(&entry, most), no_plan(&entry));
     }
-    assert_eq!(settled(&entry), short_on_day_5(&entry));
+    assert_eq!(settled(&entry), no_plan(&entry));
     assert_eq!(bound(&entry), 3);
 }
 
@@ -216,7 +216,7 @@ fn no_plan_one_pass_before_the_bound() {
     assert_ne!(within(&entry, 14).1, placed);
     assert_eq!(within(&entry, 15), (Ok(None), placed));
     for most in [16, 17, u64::MAX] {
-        assert_eq!(within(&entry, most), short_on_day_5(&entry));
+        assert_eq!(within(&entry, most), no_plan(&entry));
     }
 }
 
@@ -324,10 +324,7 @@ fn case_9_printed() {
 #[test]
 fn refusals_printed() {
     let bytes = file::unchecked_bytes(&at_least(0, &[single(5, 1, 6, -1)]));
-    assert_eq!(
-        program::answer_within(&bytes, 1, None),
-        "refused 7 day 0 5\n"
-    );
+    assert_eq!(program::answer_within(&bytes, 1, None), "refused 7 0\n");
     assert_eq!(program::most_passes(&bytes, None), "1\n");
     let cut = &bytes[..20];
     assert_eq!(program::answer_within(cut, 0, None), "refused 9 16\n");

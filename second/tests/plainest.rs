@@ -1,6 +1,5 @@
 //! The resource step once more, as plainly as it can be written: others added
-//! up task by task, every value in a list, every rule a filter on that list, and
-//! every reason that the step has in a list of its own, to pick the first from.
+//! up task by task, every value in a list, every rule a filter on that list.
 
 // The bounds stand as document 01 writes them, such as i + 1 <= end.
 #![allow(clippy::int_plus_one)]
@@ -9,8 +8,7 @@ mod support;
 
 use second::random::Random;
 use second::steps::resource_step;
-use second::{file, make, Kind, Plan, Range, Reason, Sense, Set, Task, Value};
-use std::collections::BTreeMap;
+use second::{file, make, Kind, Plan, Range, Sense, Set, Task};
 use support::*;
 
 fn is_sure(task: &Task, r: usize, i: i64) -> bool {
@@ -95,47 +93,27 @@ impl Lists {
         }
     }
 
-    /// Every value of which nothing is left.
-    fn emptied(&self) -> Vec<Value> {
-        let mut values = Vec::new();
-        for (is_empty, value) in [
-            (self.origins.is_empty(), Value::Origin),
-            (self.durations.is_empty(), Value::Duration),
-            (self.ends.is_empty(), Value::End),
-            (self.heights.is_empty(), Value::Height),
-            (self.set == 0, Value::Set),
-        ] {
-            values.extend(is_empty.then_some(value));
-        }
-        values
-    }
-
-    /// For lists of which none is empty.
-    fn task(&self) -> Task {
-        let range = |values: &[i64]| Range::new(values[0], values[values.len() - 1]);
-        Task {
+    /// None if the set or a list is empty.
+    fn task(&self) -> Option<Task> {
+        let range = |values: &[i64]| Some(Range::new(*values.first()?, *values.last()?));
+        (self.set != 0).then_some(Task {
             set: Set(self.set),
-            origin: range(&self.origins),
-            duration: range(&self.durations),
-            end: range(&self.ends),
-            height: range(&self.heights),
-        }
+            origin: range(&self.origins)?,
+            duration: range(&self.durations)?,
+            end: range(&self.ends)?,
+            height: range(&self.heights)?,
+        })
     }
 }
 
-/// Every day on which a rule may speak.
-fn days(plan: &Plan) -> Range {
-    let tasks = plan.tasks.iter();
-    let first = tasks.clone().map(|task| task.origin.low).min();
-    let last = tasks.map(|task| task.end.high).max();
-    Range::new(first.unwrap_or(0), last.unwrap_or(-1))
-}
-
-fn narrowed(plan: &Plan, place: usize, r: usize) -> Lists {
+/// None if there is no plan.
+fn narrowed(plan: &Plan, place: usize, r: usize) -> Option<Task> {
     let tasks = &plan.tasks;
     let task = &tasks[place];
     let mut left = Lists::of(task);
-    for i in days(plan).values() {
+    let first = tasks.iter().map(|task| task.origin.low).min()?;
+    let last = tasks.iter().map(|task| task.end.high).max()?;
+    for i in first..=last {
         let l = limit(plan, r, i);
         let mut others = 0;
         for (other, task) in tasks.iter().enumerate() {
@@ -143,8 +121,12 @@ fn narrowed(plan: &Plan, place: usize, r: usize) -> Lists {
                 others += hope(task, r, i);
             }
         }
+        let counts = counts(plan, r, i);
         let possible = is_possible(task, r, i);
-        if counts(plan, r, i) && possible && task.height.high > 0 && others < l {
+        if counts && others + hope(task, r, i) < l {
+            return None;
+        }
+        if counts && possible && task.height.high > 0 && others < l {
             left.need(task, r, i);
         }
         if possible && others + task.height.high < l {
@@ -154,103 +136,44 @@ fn narrowed(plan: &Plan, place: usize, r: usize) -> Lists {
             left.heights.retain(|&v| v >= l - others);
         }
     }
-    left
+    left.task()
 }
 
-/// Every reason that the step has, in no order: values from the last task to the first, then days.
-fn reasons(plan: &Plan, r: usize, left: &[Lists]) -> Vec<Reason> {
-    let mut reasons = Vec::new();
-    for (place, left) in left.iter().enumerate().rev() {
-        let values = left.emptied().into_iter().rev();
-        reasons.extend(values.map(|value| emptied(place, value)));
-    }
-    for i in days(plan).values() {
-        let hopes: i64 = plan.tasks.iter().map(|task| hope(task, r, i)).sum();
-        if counts(plan, r, i) && hopes < limit(plan, r, i) {
-            reasons.push(short(r, i));
-        }
-    }
-    reasons
-}
-
-/// "shortfalls come before emptied values, earliest day first, then tasks in list order; values are taken as origin, duration, end,
-/// height, resource set": what comes first has the least.
-fn rank(reason: &Reason) -> (u8, i64, usize) {
-    match reason {
-        Reason::Shortfall { day, .. } => (0, *day, 0),
-        Reason::Emptied { task, value } => (1, *task as i64, *value as usize),
-    }
-}
-
-/// The plan after the step, or all reasons why there is none.
-fn plainest_step(plan: &Plan, r: usize) -> Result<Plan, Vec<Reason>> {
+/// None if there is no plan.
+fn plainest_step(plan: &Plan, r: usize) -> Option<Plan> {
     if plan.sense == Sense::AtMost {
         return plainest_step(&plan.negated(), r).map(|stepped| stepped.negated());
     }
-    let places = 0..plan.tasks.len();
-    let left: Vec<Lists> = places.map(|place| narrowed(plan, place, r)).collect();
-    let reasons = reasons(plan, r, &left);
-    if !reasons.is_empty() {
-        return Err(reasons);
-    }
-    Ok(Plan {
-        tasks: left.iter().map(Lists::task).collect(),
+    let tasks: Option<Vec<Task>> = (0..plan.tasks.len())
+        .map(|place| narrowed(plan, place, r))
+        .collect();
+    Some(Plan {
+        tasks: tasks?,
         ..plan.clone()
     })
 }
 
-/// How many steps changed a plan, had more than one reason, and gave which kind of reason.
-#[derive(Debug, Default)]
-struct Seen {
-    changed: u32,
-    several: u32,
-    kinds: BTreeMap<&'static str, u32>,
-}
-
-impl Seen {
-    fn count(&mut self, reason: Reason) {
-        let kind = match reason {
-            Reason::Shortfall { .. } => "day",
-            Reason::Emptied { value, .. } => {
-                ["origin", "duration", "end", "height", "set"][value as usize]
-            }
-        };
-        *self.kinds.entry(kind).or_default() += 1;
-    }
-
-    /// Each of these comes up often enough; a height is never the first reason (tests/reasons.rs says why).
-    fn has(&self, kinds: &[&str]) {
-        let of = |kind: &str| self.kinds.get(kind).copied().unwrap_or(0);
-        assert!(kinds.iter().all(|kind| of(kind) > 5), "{self:?}");
-        assert_eq!(of("height"), 0, "{self:?}");
-    }
-}
-
-/// Every resource step of the plan both ways.
-fn compare(plan: &Plan, seen: &mut Seen) {
+/// Every resource step of the plan both ways; true if one changed it.
+fn compare(plan: &Plan) -> bool {
+    let mut changed = false;
     for r in 0..plan.resources.len() {
         let mut stepped = plan.clone();
         let result = resource_step(&mut stepped, r, None);
         let plainest = plainest_step(plan, r);
-        let reasons = plainest.as_ref().err();
-        let first = reasons.and_then(|all| all.iter().min_by_key(|one| rank(one)).copied());
-        let due = first.map_or(Ok(()), no_plan);
-        assert_eq!(result, due, "{plan:?}");
-        seen.several += u32::from(reasons.is_some_and(|all| all.len() > 1));
-        first.into_iter().for_each(|reason| seen.count(reason));
+        assert_eq!(result.is_ok(), plainest.is_some(), "{plan:?}");
         assert_eq!(stepped, plainest.unwrap_or(plan.clone()), "{plan:?}");
-        seen.changed += u32::from(stepped != *plan);
+        changed |= stepped != *plan;
     }
+    changed
 }
 
 #[test]
 fn the_resource_step_equals_its_plainest_form() {
-    let mut seen = Seen::default();
+    let mut changed = 0;
     for n in 0..10_000 {
-        compare(&small_plan(&mut Random::new(21, n)), &mut seen);
+        changed += u32::from(compare(&small_plan(&mut Random::new(21, n))));
     }
-    assert!(seen.changed > 300 && seen.several > 300, "{seen:?}");
-    seen.has(&["day", "origin", "duration", "end"]);
+    assert!(changed > 300, "{changed}");
 }
 
 /// Few tasks, days and heights: every value is listed for every task.
@@ -262,13 +185,12 @@ fn is_small(plan: &Plan) -> bool {
 
 #[test]
 fn the_same_on_a_made_stream() {
-    let mut seen = Seen::default();
+    let mut changed = 0;
     for n in 0..1_500 {
         match file::read(&make::plan_file(5, n)) {
-            Ok(plan) if is_small(&plan) => compare(&plan, &mut seen),
+            Ok(plan) if is_small(&plan) => changed += u32::from(compare(&plan)),
             _ => (),
         }
     }
-    assert!(seen.changed > 200 && seen.several > 100, "{seen:?}");
-    seen.has(&["day", "origin", "end", "set"]);
+    assert!(changed > 200, "{changed}");
 }

@@ -34,7 +34,7 @@ fn refused<T>(number: u32, place: usize) -> Result<T, Refusal> {
 fn every_call_refuses(plan: &Plan, number: u32, place: usize) {
     assert_eq!(entry::check(plan), refused(number, place));
     let mut after = plan.clone();
-    assert_eq!(balance(&mut after, None), refused(number, place));
+    assert_eq!(balance(&mut after), refused(number, place));
     assert_eq!(resource_step(&mut after, 99, None), refused(number, place));
     assert_eq!(pass(&mut after, None), refused(number, place));
     assert_eq!(settle(&mut after, None), refused(number, place));
@@ -149,10 +149,10 @@ fn refusal_6_empty_set_or_beyond_task_by_task() {
 fn refusal_7_comes_last_and_keeps_the_tasks() {
     let plan = at_least(0, &[single(5, 1, 6, -1)]);
     let mut after = plan.clone();
-    assert_eq!(balance(&mut after, None), Ok(()));
+    assert_eq!(balance(&mut after), Ok(()));
     assert_eq!(resource_step(&mut after, 1, None), refused(12, 0));
-    assert_eq!(resource_step(&mut after, 0, None), no_plan(short(0, 5)));
-    assert_eq!(pass(&mut after, None), no_plan(short(0, 5)));
+    assert_eq!(resource_step(&mut after, 0, None), refused(7, 0));
+    assert_eq!(pass(&mut after, None), refused(7, 0));
     assert_eq!(after, plan);
 }
 

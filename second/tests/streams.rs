@@ -95,25 +95,6 @@ fn a_stream_is_broad() {
     assert!(heads["refused 7"] > COUNT / 10, "{heads:?}");
 }
 
-/// Refusal 7 is given with a day and with each value that settling can find emptied: origin, end and set (tests/reasons.rs says why not
-/// duration and height).
-#[test]
-fn a_stream_has_every_reason() {
-    let mut reasons: BTreeMap<String, u64> = BTreeMap::new();
-    for n in 0..COUNT {
-        let said = answer(&plan_file(SEED, n), None);
-        let words: Vec<&str> = said.split_whitespace().collect();
-        match words[..] {
-            ["refused", "7", "day", _, _] => *reasons.entry("day".into()).or_default() += 1,
-            ["refused", "7", "task", _, value] => *reasons.entry(value.into()).or_default() += 1,
-            _ => (),
-        }
-    }
-    assert!(reasons["day"] > 100 && reasons["0"] > 50, "{reasons:?}");
-    assert!(reasons["2"] > 5 && reasons["4"] > 5, "{reasons:?}");
-    assert_eq!(reasons.len(), 4, "{reasons:?}");
-}
-
 /// A good share of the plans has bands and a good share has none, and bands change answers.
 #[test]
 fn a_stream_has_plans_with_bands_and_without() {

@@ -6,7 +6,6 @@ use mathlib.Core.List.{List, [], ◌∷◌}
 use Prim.Native.Nat.{ℕ, suc, ◌+◌, ◌*◌, ◌/◌, ◌^◌, ◌≤◌, ◌<◌}
 use native.Mathlib.Omega.{arith}
 use lib.Dec.{ltb}
-use lib.IntN.{pos}
 use lib.ListN.{length}
 use borrow.Author.Tests.{ltb-true, ltb-false, ne_eqb}
 use Rattle.integers.proofs.Tests.{by_cases}
@@ -19,7 +18,7 @@ use Rattle.plan.specs.declared.Checked.TheVariants.{Accepted}
 use Rattle.plan.specs.declared.Refusal.{Refusal}
 use Rattle.plan.specs.declared.Answer.{Answer}
 use Rattle.plan.specs.declared.Answer.TheVariants.{Done, Refused}
-use Rattle.plan.specs.Refusals.{number, Told, told, reason_values, told_answer}
+use Rattle.plan.specs.Refusals.{number, Told, told, told_answer}
 use Rattle.plan.proofs.Refusals.{number_ends}
 use Rattle.rules.specs.Frame.{Frame, resource_count}
 use Rattle.rules.specs.Settle.{Settled, settle_within, most_passes, settle}
@@ -40,10 +39,10 @@ use Rattle.format.specs.Reading.{Read, read_plan}
 use Rattle.format.specs.Writing.{written, room_for, Good}
 use Rattle.format.proofs.Files.{length_written}
 use Rattle.format.proofs.RoundTrip.{accepted_written}
-use Rattle.answers.specs.Files.{answer_number, values_number, one_number, FileResult, file_result, after_read, answer_file, lent_due, plan_call, plan_file, file_call, read_number, check_file, most_file, refusal_in, file_left, Part, mosts, Roomy, settle_file_again}
+use Rattle.answers.specs.Files.{answer_number, one_number, FileResult, file_result, after_read, answer_file, lent_due, plan_call, plan_file, file_call, read_number, check_file, most_file, refusal_in, file_left, Part, mosts, Roomy, settle_file_again}
 use Rattle.answers.specs.Outcomes.{read_outcome, Apart}
-use Rattle.answers.proofs.Answers.{call_apart, refused_apart}
-use Rattle.answers.proofs.FileTheorems.{file_call_lem, file_refuses, file_short, good_left, file_number}
+use Rattle.answers.proofs.Answers.{call_apart}
+use Rattle.answers.proofs.FileTheorems.{file_call_lem, file_refuses, file_short, good_left}
 use Rattle.answers.proofs.GoesOn.{call_left, call_number}
 
 -- ---- any file: with as many passes as the bound, or more, settling within them is settling, refusals too
@@ -69,7 +68,7 @@ unfolding plan_call lent_due
 roomy_number c f ts out p e = rw (p, e)
 
 -- what the call over lists says, where it is done
-done_list : (f : Frame) (ts : List Task) (n : ℕ) → (call_of Settle f ts).answer ≡ Done n → list_call Settle f ts ≡ list_result (told 0 (pos n ∷ [])) (call_of Settle f ts).tasks
+done_list : (f : Frame) (ts : List Task) (n : ℕ) → (call_of Settle f ts).answer ≡ Done n → list_call Settle f ts ≡ list_result (told 0 (n ∷ [])) (call_of Settle f ts).tasks
 unfolding list_call
 done_list f ts n e = rw e
 
@@ -157,15 +156,8 @@ again_written f [] before ts g r = refl
 again_written f (p ∷ parts) before ts g (also l r) = go (settle_within p.most f ts) refl (again_written f parts (before + p.most))
   where
     go : (s : Settled) → settle_within p.most f ts ≡ s → ((us : List Task) → Good f us → Roomy (length (written f us)) parts → settle_file_again (before + p.most) parts (written f us) ≡ file_result (one_number (settle_again (before + p.most) (mosts parts) f us).answer) (written f (settle_again (before + p.most) (mosts parts) f us).tasks)) → settle_file_again before (p ∷ parts) (written f ts) ≡ file_result (one_number (settle_again before (mosts (p ∷ parts)) f ts).answer) (written f (settle_again before (mosts (p ∷ parts)) f ts).tasks)
-    go (Settled.Refused why) e k =
-        let lower = values_number (reason_values why) in
-        rw (
-          within_list f ts g p.most (Settled.Refused why) e,
-          within_number f ts g p.most (Settled.Refused why) e p.out l,
-          within_file f ts g p.most (Settled.Refused why) e p.out l,
-          ne_eqb (7 * 2 ^ 32 + lower) 0 (λ z. omega arith),
-          ne_eqb ((7 * 2 ^ 32 + lower) / 2 ^ 32) 0 (λ z. omega arith),
-        )
+    go Settled.Refused e k =
+        rw (within_list f ts g p.most Settled.Refused e, within_number f ts g p.most Settled.Refused e p.out l, within_file f ts g p.most Settled.Refused e p.out l)
     go (Settled.After j us) e k =
         let x = settled_within f p.most ts g.passes j us e in
         let some = x.0 in
@@ -210,20 +202,20 @@ module _ (file : List ℕ) (bytes : AllBytes file) (f : Frame) (ts : List Task) 
         subst (λ (b : List ℕ). length b ≤ length a → file_left Settle b a ≡ written f (call_of Settle f ts).tasks)
         good.1 (λ k. call_left f ts good.0 Settle a refl k (call_of Settle f ts) refl) l
 
-    by_settle : {P : Type 0} → (refusal_in (file_call Settle file a).answer ≡ 7 → (list_call Settle f ts).answer.number ≡ 7 → P) → ((k : ℕ) → 1 ≤ k → k < 2 ^ 32 → (file_call Settle file a).answer ≡ k → (list_call Settle f ts).answer.number ≡ 0 → P) → P
+    by_settle : {P : Type 0} → ((file_call Settle file a).answer ≡ 7 * 2 ^ 32 → (list_call Settle f ts).answer.number ≡ 7 → P) → ((k : ℕ) → 1 ≤ k → k < 2 ^ 32 → (file_call Settle file a).answer ≡ k → (list_call Settle f ts).answer.number ≡ 0 → P) → P
     by_settle {P} none some = go (settle f ts) refl
       where
         go : (s : Settled) → settle f ts ≡ s → P
-        go (Settled.Refused why) e =
-            let n = ap (λ (x : ListResult). x.answer.number) (settle_none f ts good.0.passes e) in
-            none (file_number file bytes f ts plan Settle a refl l ∙ n) n
+        go Settled.Refused e =
+            let r = settle_none f ts good.0.passes e in
+            none (settle_number ∙ ap (λ (x : ListResult). one_number x.answer) r ∙ omega arith) (ap (λ (x : ListResult). x.answer.number) r)
         go (Settled.After k us) e =
             let r = settle_done f ts good.0.passes k us e in
             let n = settle_number ∙ ap (λ (x : ListResult). one_number x.answer) r in
             some k (settle_stops f ts good.0.passes k us e).some (settle_small f ts good.0.passes k us e) (omega (arith, n)) (ap (λ (x : ListResult). x.answer.number) r)
         go (Settled.Unsettled us) e = absurd (settle_settles f ts good.0.passes us e)
 
-    plan_failing : refusal_in (file_call Settle file a).answer ≡ 7 → (k : ℕ) × (k < most_file file) × ((file_call (Within k) file a).answer ≡ 0) × ((file_call (Within (suc k)) file a).answer ≡ (file_call Settle file a).answer)
+    plan_failing : refusal_in (file_call Settle file a).answer ≡ 7 → (k : ℕ) × (k < most_file file) × ((file_call (Within k) file a).answer ≡ 0) × (refusal_in (file_call (Within (suc k)) file a).answer ≡ 7)
     plan_failing d =
         by_settle
         (λ n h.
@@ -233,7 +225,7 @@ module _ (file : List ℕ) (bytes : AllBytes file) (f : Frame) (ts : List Task) 
         let most = file_most.0 in
         let before = (file_call_lem file bytes f ts plan (Within k) a refl l).0 ∙ ap one_number r.2 in
         let at = (file_call_lem file bytes f ts plan (Within (suc k)) a refl l).0 ∙ ap one_number r.3 in
-        (k, omega arith, before, at ∙ sym settle_number))
+        (k, omega arith, before, omega arith))
         (λ k some few n h. absurd (omega arith))
 
     module _ (parts : List Part) (r : Roomy (length file) parts) where
@@ -266,8 +258,8 @@ module _ (file : List ℕ) (bytes : AllBytes file) (f : Frame) (ts : List Task) 
 -- ---- any lent file
 module _ (file : List ℕ) (bytes : AllBytes file) (out : List ℕ) where
   -- "where settling ends in no plan, the failing pass comes within the same number": within the passes before it the
-  -- answer is 0, within one more it is settling's, with its reason
-  pub file_failing : refusal_in (file_call Settle file out).answer ≡ 7 → (k : ℕ) × (k < most_file file) × ((file_call (Within k) file out).answer ≡ 0) × ((file_call (Within (suc k)) file out).answer ≡ (file_call Settle file out).answer)
+  -- answer is 0, within one more 7
+  pub file_failing : refusal_in (file_call Settle file out).answer ≡ 7 → (k : ℕ) × (k < most_file file) × ((file_call (Within k) file out).answer ≡ 0) × (refusal_in (file_call (Within (suc k)) file out).answer ≡ 7)
   file_failing d =
       let p = file_refuses file out Settle d in
       let f = p.0 in
@@ -286,7 +278,7 @@ module _ (file : List ℕ) (bytes : AllBytes file) (out : List ℕ) where
     first_refuses e h p parts =
         let n = (number_ends e).0 in
         let a = answer_number (Refused e) in
-        let refused : refusal_in a ≡ number e = (refused_apart file e h).0 in
+        let refused : refusal_in a ≡ number e = omega arith in
         (rw (h, ne_eqb a 0 (λ z. omega arith), ne_eqb (refusal_in a) 0 (λ z. omega arith)), rw h refused)
 
     -- until it answers something else than 0: that is what settling answers, the passes of all calls added up, and, unless it is refused, the file that it leaves

@@ -16,7 +16,6 @@ use Rattle.plan.specs.declared.Call.{Call}
 use Rattle.plan.specs.declared.Call.TheVariants.{Step, Pass}
 use Rattle.plan.specs.declared.Checked.{Checked}
 use Rattle.plan.specs.declared.Checked.TheVariants.{Accepted}
-use Rattle.plan.specs.declared.Reason.{Reason}
 use Rattle.plan.specs.declared.Refusal.{Refusal}
 use Rattle.plan.specs.declared.Refusal.TheVariants.{NoPlan}
 use Rattle.plan.specs.declared.Answer.{Answer}
@@ -43,15 +42,15 @@ use Rattle.format.proofs.RoundTrip.{written_read, accepted_written}
 use Rattle.format.proofs.Refusing.{read_number_lem}
 use Rattle.answers.specs.Files.{one_number, file_result, after_read, answer_file, lent_due, plan_call, file_call, refusal_in, file_left, Asked, files_left}
 use Rattle.answers.specs.Outcomes.{read_outcome, file_outcome, Apart}
-use Rattle.answers.proofs.Answers.{call_apart, call_one, lent_placed}
+use Rattle.answers.proofs.Answers.{call_apart, lent_placed}
 
 -- ---- 12 and 10 are not 7
 abbrev number_of : Answer → ℕ
 number_of (Done n) = 0
 number_of (Refused f) = number f
 
-lent_other : (c : Call) (resources file out : ℕ) (e : Refusal) → lent_due c resources file out ≡ Checked.Refused e → (why : Reason) → Refused e ≡ Refused (NoPlan why) → ⊥
-lent_other c resources file out e h why g = (subst (PlacedTo 0) h (lent_placed c resources file out)).1 (ap number_of g)
+lent_other : (c : Call) (resources file out : ℕ) (e : Refusal) → lent_due c resources file out ≡ Checked.Refused e → Refused e ≡ Refused NoPlan → ⊥
+lent_other c resources file out e h g = (subst (PlacedTo 0) h (lent_placed c resources file out)).1 (ap number_of g)
 
 -- ---- one call, on the writing of a plan that passes the checks
 module _ (f : Frame) (ts : List Task) (g : Good f ts) (c : Call) (out : List ℕ) where
@@ -71,7 +70,7 @@ module _ (f : Frame) (ts : List Task) (g : Good f ts) (c : Call) (out : List ℕ
     where
       fair : (k : Checked) → due ≡ k → Fair f ts (unless_refused k ts (call_of c f ts))
       fair Accepted e = call_fair f ts c g.passes
-      fair (Checked.Refused r) e = refused_fair f ts r g.passes (λ why s. absurd (lent_other c (resource_count f) (length file) (length out) r e why s))
+      fair (Checked.Refused r) e = refused_fair f ts r g.passes (λ s. absurd (lent_other c (resource_count f) (length file) (length out) r e s))
 
   plan_stays : Stays ts x
   unfolding plan_call
@@ -97,14 +96,16 @@ module _ (f : Frame) (ts : List Task) (g : Good f ts) (c : Call) (out : List ℕ
       let h : Apart answer x.answer = rw (written_read f ts g) at (call_apart c file out) in
       subst (Apart answer) e h
 
-  pub refusal_is : (a : Answer) → x.answer ≡ a → refusal_in answer ≡ (told_answer a).number
+  refusal_is : (a : Answer) → x.answer ≡ a → refusal_in answer ≡ (told_answer a).number
   refusal_is (Done n) e = (apart (Done n) e).2
   refusal_is (Refused r) e = (apart (Refused r) e).0
 
   pub number_is : (a : Answer) → x.answer ≡ a → answer ≡ one_number (told_answer a)
-  number_is a e =
-      let h : answer ≡ one_number (told_answer x.answer) = rw (written_read f ts g) at (call_one c file out) in
-      h ∙ ap (λ (b : Answer). one_number (told_answer b)) e
+  number_is (Done n) e = let h = (apart (Done n) e).0 in omega arith
+  number_is (Refused r) e =
+      let h = (apart (Refused r) e).0 in
+      let g = (apart (Refused r) e).1 in
+      omega arith
 
   laid_is : (n : ℕ) → x.answer ≡ Done n → (take (length file) (file_call c file out).out ≡ written f x.tasks) × (drop (length file) (file_call c file out).out ≡ drop (length file) out)
   laid_is n e =
@@ -112,16 +113,16 @@ module _ (f : Frame) (ts : List Task) (g : Good f ts) (c : Call) (out : List ℕ
       rw (call_is, e)
       (take_at w (drop (length w) out) (length file) length_same, drop_at w (drop (length w) out) (length file) length_same ∙ ap (λ (k : ℕ). drop k out) length_same)
 
-  left_by_lem : (a : Answer) → x.answer ≡ a → file_left c file out ≡ written f x.tasks
+  left_by : (a : Answer) → x.answer ≡ a → file_left c file out ≡ written f x.tasks
   unfolding file_left
-  left_by_lem (Done n) e = rw (refusal_is (Done n) e, (laid_is n e).0)
-  left_by_lem (Refused r) e =
+  left_by (Done n) e = rw (refusal_is (Done n) e, (laid_is n e).0)
+  left_by (Refused r) e =
       let n = (number_ends r).0 in
       rw (ne_eqb (refusal_in answer) 0 (λ z. omega (arith, refusal_is (Refused r) e)))
       (sym (ap (written f) (plan_stays (λ z. let m = ap (λ (a : Answer). (told_answer a).number) e in omega arith))))
 
   pub left_is : file_left c file out ≡ written f x.tasks
-  left_is = left_by_lem x.answer refl
+  left_is = left_by x.answer refl
 
   done_is : (a : Answer) → x.answer ≡ a → refusal_in answer ≡ 0 → (take (length file) (file_call c file out).out ≡ written f x.tasks) × (drop (length file) (file_call c file out).out ≡ drop (length file) out)
   done_is (Done n) e d = laid_is n e
@@ -129,9 +130,7 @@ module _ (f : Frame) (ts : List Task) (g : Good f ts) (c : Call) (out : List ℕ
 
   none_is : (a : Answer) → x.answer ≡ a → refusal_in answer ≡ 7 → HoldsNone f ts
   none_is (Done n) e d = absurd (omega (arith, refusal_is (Done n) e))
-  none_is (Refused r) e d =
-      let n = number_none r (sym (refusal_is (Refused r) e) ∙ d) in
-      plan_fair.none n.reason (e ∙ ap Refused n.is)
+  none_is (Refused r) e d = plan_fair.none (e ∙ ap Refused (number_none r (sym (refusal_is (Refused r) e) ∙ d)))
 
   -- with room, and of a place in the list, it is the call over lists
   pub roomy : placed_in (resource_count f) c ≡ true → length file ≤ length out → x ≡ call_of c f ts
@@ -176,14 +175,6 @@ module _ (file : List ℕ) (bytes : AllBytes file) (f : Frame) (ts : List Task) 
       rw (← good.1)
       (number_is f ts g c out (call_of c f ts).answer (ap (λ (r : Result). r.answer) same), ap read_plan (left_is f ts g c out ∙ ap (λ (r : Result). written f r.tasks) same) ∙ written_read f (call_of c f ts).tasks (good_left f ts (call_of c f ts).tasks g k))
 
-  -- and the same refusal number
-  pub file_number : (c : Call) (out : List ℕ) → placed_in (resource_count f) c ≡ true → length file ≤ length out → refusal_in (file_call c file out).answer ≡ (list_call c f ts).answer.number
-  unfolding list_call
-  file_number c out p l =
-      let g = good.0 in
-      let same = roomy f ts g c out p (rw good.1 l) in
-      rw (← good.1) (refusal_is f ts g c out (call_of c f ts).answer (ap (λ (r : Result). r.answer) same))
-
   -- what a call writes reads back as a plan with the very same allowed plans, and later bytes of the output stay
   pub file_keeps : (c : Call) (out : List ℕ) → refusal_in (file_call c file out).answer ≡ 0 → (us : List Task) × (read_plan (take (length file) (file_call c file out).out) ≡ Read.Plan f us) × Keeps f ts us × (drop (length file) (file_call c file out).out ≡ drop (length file) out)
   file_keeps c out d =
@@ -221,9 +212,8 @@ module _ (file : List ℕ) (bytes : AllBytes file) (f : Frame) (ts : List Task) 
   -- one fixed choice: a pass is refused with 7 exactly if that choice breaks a rule
   pub file_of_one_choice : all one_value ts ≡ true → all one_resource ts ≡ true → (cs : List Choice) → inside_all ts cs ≡ true → (out : List ℕ) → length file ≤ length out → refusal_in (file_call Pass file out).answer ≡ if (allowed f cs) 0 7
   file_of_one_choice v w cs h out l =
-      let p = pass_of_one_choice f ts good.0.passes v w cs h in
-      file_number Pass out refl l
-      ∙ by_cases (allowed f cs) (λ a. rw a (ap (λ (r : ListResult). r.answer.number) (p.0 a))) (λ a. rw a (ap (λ (r : ListResult). r.answer.number) (p.1 a).1))
+      let n = (file_call_lem Pass out refl l).0 ∙ ap (λ (r : ListResult). one_number r.answer) (pass_of_one_choice f ts good.0.passes v w cs h) in
+      by_cases (allowed f cs) (λ a. let m = rw a at n in rw a (omega arith)) (λ a. let m = rw a at n in rw a (omega arith))
 
 -- and 7 comes for no other file than one that holds a plan
 pub file_refuses : (file out : List ℕ) (c : Call) → refusal_in (file_call c file out).answer ≡ 7 → (f : Frame) × (ts : List Task) × (read_plan file ≡ Read.Plan f ts)

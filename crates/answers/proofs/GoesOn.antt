@@ -56,10 +56,10 @@ written_once f ts us g h e =
 
 -- ---- after a pass
 module _ (f : Frame) (ts : List Task) (g : Good f ts) (out a b : List ℕ) (l : length (written f ts) ≤ length out) (m : length (written f ts) ≤ length a) (n : length (written f ts) ≤ length b) where
-  none_by : (o : Outcome) → pass f ts ≡ o → refusal_in (file_call Pass (written f ts) out).answer ≡ 7 → (file_call Settle (written f ts) a).answer ≡ (file_call Pass (written f ts) out).answer
-  none_by (Outcome.NoPlan why) e d =
-      call_number f ts g Settle a refl m (settled ts (Settled.Refused why)) (settles f ts g (Settled.Refused why) (settle_refused f ts g.passes e))
-      ∙ sym (call_number f ts g Pass out refl l (stepped ts (Outcome.NoPlan why)) (passed f ts g (Outcome.NoPlan why) e))
+  none_by : (o : Outcome) → pass f ts ≡ o → refusal_in (file_call Pass (written f ts) out).answer ≡ 7 → refusal_in (file_call Settle (written f ts) a).answer ≡ 7
+  none_by Outcome.NoPlan e d =
+      let k = call_number f ts g Settle a refl m (settled ts Settled.Refused) (settles f ts g Settled.Refused (settle_refused f ts g.passes e)) in
+      omega arith
   none_by (Outcome.Plan us) e d =
       let k = call_number f ts g Pass out refl l (stepped ts (Outcome.Plan us)) (passed f ts g (Outcome.Plan us) e) in
       absurd (omega arith)
@@ -91,10 +91,10 @@ module _ (f : Frame) (ts : List Task) (g : Good f ts) (out a b : List ℕ) (l : 
     room = omega (arith, n, length_written f us, length_written f ts, subs_length keeps.inside)
 
     more_by : (s : Settled) → settle f us ≡ s → settle f ts ≡ one_pass_more s → Alike (written f ts) a (written f us) b
-    more_by (Settled.Refused why) u t =
-        let k = call_number f us left_good Settle b refl room (settled us (Settled.Refused why)) (settles f us left_good (Settled.Refused why) u) in
-        let j = call_number f ts g Settle a refl m (settled ts (Settled.Refused why)) (settles f ts g (Settled.Refused why) t) in
-        record { counted = λ z. absurd (omega arith); left = λ z. absurd (omega arith); none = λ z. j ∙ sym k }
+    more_by Settled.Refused u t =
+        let k = call_number f us left_good Settle b refl room (settled us Settled.Refused) (settles f us left_good Settled.Refused u) in
+        let j = call_number f ts g Settle a refl m (settled ts Settled.Refused) (settles f ts g Settled.Refused t) in
+        record { counted = λ z. absurd (omega arith); left = λ z. absurd (omega arith); none = λ z. omega arith }
     more_by (Settled.After i vs) u t =
         let h = settles f us left_good (Settled.After i vs) u in
         let r = settles f ts g (Settled.After (suc i) vs) t in
@@ -113,11 +113,11 @@ module _ (f : Frame) (ts : List Task) (g : Good f ts) (out a b : List ℕ) (l : 
         subst (λ (y : List ℕ). Alike (written f ts) a y b) (sym next_is) (more_by (settle f us) refl (settle_more f ts g.passes us e other))
 
   -- a pass that is not refused left a plan
-  left_by_lem : {P : Type 0} (o : Outcome) → pass f ts ≡ o → refusal_in (file_call Pass (written f ts) out).answer ≡ 0 → ((us : List Task) → pass f ts ≡ Outcome.Plan us → P) → P
-  left_by_lem (Outcome.NoPlan why) e d k =
-      let j = call_number f ts g Pass out refl l (stepped ts (Outcome.NoPlan why)) (passed f ts g (Outcome.NoPlan why) e) in
+  left_by : {P : Type 0} (o : Outcome) → pass f ts ≡ o → refusal_in (file_call Pass (written f ts) out).answer ≡ 0 → ((us : List Task) → pass f ts ≡ Outcome.Plan us → P) → P
+  left_by Outcome.NoPlan e d k =
+      let j = call_number f ts g Pass out refl l (stepped ts Outcome.NoPlan) (passed f ts g Outcome.NoPlan e) in
       absurd (omega arith)
-  left_by_lem (Outcome.Plan us) e d k = k us e
+  left_by (Outcome.Plan us) e d k = k us e
 
 -- ---- a lent file that holds a plan
 module _ (file : List ℕ) (bytes : AllBytes file) (f : Frame) (ts : List Task) (plan : read_plan file ≡ Read.Plan f ts) (out a b : List ℕ) (l : length file ≤ length out) (m : length file ≤ length a) (n : length file ≤ length b) where
@@ -131,20 +131,20 @@ module _ (file : List ℕ) (bytes : AllBytes file) (f : Frame) (ts : List Task) 
       room : (o : List ℕ) → length file ≤ length o → length (written f ts) ≤ length o
       room o h = subst (λ (y : List ℕ). length y ≤ length o) (sym good.1) h
 
-  -- where a pass finds no plan, settling finds none, for the same reason
-  pub pass_finds_none : refusal_in (file_call Pass file out).answer ≡ 7 → (file_call Settle file a).answer ≡ (file_call Pass file out).answer
+  -- where a pass finds no plan, settling finds none
+  pub pass_finds_none : refusal_in (file_call Pass file out).answer ≡ 7 → refusal_in (file_call Settle file a).answer ≡ 7
   pass_finds_none =
-      carried (λ y. refusal_in (file_call Pass y out).answer ≡ 7 → (file_call Settle y a).answer ≡ (file_call Pass y out).answer)
+      carried (λ y. refusal_in (file_call Pass y out).answer ≡ 7 → refusal_in (file_call Settle y a).answer ≡ 7)
       (λ x y z. none_by f ts good.0 out a b x y z (pass f ts) refl)
 
   -- where it leaves the same bytes, the plan is settled: one pass
   pub pass_is_last : refusal_in (file_call Pass file out).answer ≡ 0 → file_left Pass file out ≡ file → ((file_call Settle file a).answer ≡ 1) × (file_left Settle file a ≡ file)
   pass_is_last =
       carried (λ y. refusal_in (file_call Pass y out).answer ≡ 0 → file_left Pass y out ≡ y → ((file_call Settle y a).answer ≡ 1) × (file_left Settle y a ≡ y))
-      (λ x y z d. left_by_lem f ts good.0 out a b x y z (pass f ts) refl d (last_is f ts good.0 out a b x y z))
+      (λ x y z d. left_by f ts good.0 out a b x y z (pass f ts) refl d (last_is f ts good.0 out a b x y z))
 
   -- else settling what it left comes to the same, with one pass fewer
   pub pass_goes_on : refusal_in (file_call Pass file out).answer ≡ 0 → (file_left Pass file out ≡ file → ⊥) → Alike file a (file_left Pass file out) b
   pass_goes_on =
       carried (λ y. refusal_in (file_call Pass y out).answer ≡ 0 → (file_left Pass y out ≡ y → ⊥) → Alike y a (file_left Pass y out) b)
-      (λ x y z d. left_by_lem f ts good.0 out a b x y z (pass f ts) refl d (more_is f ts good.0 out a b x y z))
+      (λ x y z d. left_by f ts good.0 out a b x y z (pass f ts) refl d (more_is f ts good.0 out a b x y z))

@@ -1,9 +1,8 @@
 -- A call on a plan file in memory: one number, and what the lent output holds then. Refusals come in the order of reading (`read_plan`: 8
 -- and 9 as each record is due, 1 and 2 after the first, 13 for a 65th band, then 3, 4, 13, 5 and 6), then 12 for a place, 10 for an output shorter than the file, then 7.
-use Rattle.std.specs.Prelude.{◌≡◌, not, List, [], ◌∷◌, map, ℕ, suc, ◌+◌, ◌*◌, ◌/◌, ◌%◌, ◌^◌, ◌≤◌, eqb, ℤ, ◌-ℤ◌, nat_abs, length, take}
+use Rattle.std.specs.Prelude.{◌≡◌, not, List, [], ◌∷◌, map, ℕ, suc, ◌+◌, ◌*◌, ◌/◌, ◌%◌, ◌^◌, ◌≤◌, eqb, length, get_or, take}
 use Rattle.integers.specs.Lists.{Each}
 use Rattle.integers.specs.Tests.{if}
-use Rattle.integers.specs.Hull.{within}
 use Rattle.plan.specs.declared.Task.{Task}
 use Rattle.plan.specs.declared.Call.{Call}
 use Rattle.plan.specs.declared.Call.TheVariants.{Settle, Within}
@@ -12,46 +11,21 @@ use Rattle.plan.specs.declared.Refusal.{Refusal}
 use Rattle.plan.specs.declared.Refusal.TheVariants.{NoSuchResource}
 use Rattle.plan.specs.declared.Answer.{Answer}
 use Rattle.plan.specs.declared.Answer.TheVariants.{Done, Refused}
-use Rattle.plan.specs.declared.Reason.{Reason}
-use Rattle.plan.specs.declared.Reason.TheVariants.{Short, Emptied}
-use Rattle.plan.specs.declared.Detail.{Detail}
-use Rattle.plan.specs.declared.Detail.TheVariants.{Place, Because}
-use Rattle.plan.specs.Days.{day_low, day_ends}
-use Rattle.plan.specs.Refusals.{number, detail, value_number, Told}
+use Rattle.plan.specs.Refusals.{number, place, Told}
 use Rattle.rules.specs.Frame.{Frame, resource_count}
 use Rattle.rules.specs.Settle.{most_passes}
 use Rattle.rules.specs.Calls.{or_else, refuse_if, Result, unless_refused, placed_in, call_of}
 use Rattle.format.specs.Reading.{Read, read_plan}
 use Rattle.format.specs.Writing.{written, laid, room_for}
 
--- include/gristwaltz.h: "2^30 + resource x 2^18 + day + 100,000" or "2^31 + task x 8 + value"; a resource's place is below 2^12, a task's below 2^28,
--- and a day within its ends (so it is with every call: the law `call_apart`)
-abbrev pub day_number : ℤ → ℕ
-day_number i = if (within day_ends i) (nat_abs (i -ℤ day_low)) 0
-
-abbrev pub reason_number : Reason → ℕ
-reason_number (Short s) = 2 ^ 30 + (s.place % 2 ^ 12 * 2 ^ 18 + day_number s.day.0)
-reason_number (Emptied s) = 2 ^ 31 + (s.task % 2 ^ 28 * 8 + value_number s.value)
-
--- every place is below 2^32
-abbrev pub detail_number : Detail → ℕ
-detail_number (Place k) = k % 2 ^ 32
-detail_number (Because e) = reason_number e
-
--- the refusal number times 2^32 plus the place or the reason; or, for number 0, the pass count or the most passes
+-- include/gristwaltz.h: the refusal number times 2^32 plus the place, or, for number 0, the pass count or the most passes; every place is below 2^32
 abbrev pub answer_number : Answer → ℕ
 answer_number (Done n) = n
-answer_number (Refused f) = number f * 2 ^ 32 + detail_number (detail f)
+answer_number (Refused f) = number f * 2 ^ 32 + place f % 2 ^ 32
 
 -- the same of an answer in the page's number and values
-abbrev pub values_number : List ℤ → ℕ
-values_number [] = 0
-values_number (k ∷ []) = nat_abs k
-values_number (k ∷ p ∷ []) = 0
-values_number (k ∷ p ∷ v ∷ vs) = if (eqb (nat_abs k) 1) (2 ^ 30 + (nat_abs p * 2 ^ 18 + nat_abs (v -ℤ day_low))) (2 ^ 31 + (nat_abs p * 8 + nat_abs v))
-
 abbrev pub one_number : Told → ℕ
-one_number t = t.number * 2 ^ 32 + values_number t.values
+one_number t = t.number * 2 ^ 32 + get_or t.values 0 0
 
 pub record FileResult : Type 0 where
   pub answer : ℕ
@@ -147,4 +121,4 @@ settle_file_again before (p ∷ parts) file =
 pub record Alike (file a next b : List ℕ) : Type 0 where
   pub counted : refusal_in (file_call Settle next b).answer ≡ 0 → (file_call Settle file a).answer ≡ suc (file_call Settle next b).answer
   pub left : refusal_in (file_call Settle next b).answer ≡ 0 → file_left Settle file a ≡ file_left Settle next b
-  pub none : refusal_in (file_call Settle next b).answer ≡ 7 → (file_call Settle file a).answer ≡ (file_call Settle next b).answer
+  pub none : refusal_in (file_call Settle next b).answer ≡ 7 → refusal_in (file_call Settle file a).answer ≡ 7

@@ -11,7 +11,7 @@ ghost use Rattle.rows.specs.View.{tasks_of};
 ghost use Rattle.rows.specs.Changes.{outcome_of, Notes};
 ghost use Rattle.balance.specs.Exact.{exact};
 
-use plan::{Day, Emptied, Narrowed, Reason, Task, Value};
+use plan::{Day, Narrowed, Task, Value};
 use rows::{Stepped, TaskRow};
 
 fn cut_task(t: Task) -> Task
@@ -92,12 +92,18 @@ pub fn balance(s: &mut [TaskRow]) -> Stepped
                 Narrowed::Kept(u) => {
                     touched = rows::put_changed(s, i, u, touched);
                 }
-                Narrowed::RanOut(value) => {
-                    return Stepped::NoPlan(Reason::Emptied(Emptied { task: i, value }));
+                Narrowed::RanOut(_) => {
+                    return Stepped {
+                        ok: false,
+                        touched: touched,
+                    };
                 }
             }
         }
         i += 1;
     }
-    Stepped::Plan(touched)
+    Stepped {
+        ok: true,
+        touched: touched,
+    }
 }

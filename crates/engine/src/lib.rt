@@ -4,10 +4,10 @@ ghost use Rattle.std.specs.Prelude.{◌≡◌, true, length};
 ghost use Rattle.rules.specs.Calls.{placed_in};
 ghost use Rattle.rows.specs.View.{frame_of, at_least};
 ghost use Rattle.passes.specs.Ready.{Ready, AnsweredRows};
-ghost use Rattle.engine.specs.Calls.{after_step, most_asked, uncounted, reported, Restored};
+ghost use Rattle.engine.specs.Calls.{left_if, Restored};
 
 use plan::{Answer, Call, Refusal, Sense};
-use rows::{BandRow, ResourceRow, Stepped, TaskRow};
+use rows::{BandRow, ResourceRow, TaskRow};
 use stretches::StretchRow;
 
 // "a resource step names a place not in the list"
@@ -28,48 +28,18 @@ pub fn is_placed(c: Call, resources: usize) -> bool
 // More passes than settling any plan makes: at most some 617 million.
 pub const ENOUGH_PASSES: u64 = 1 << 32;
 
-// A step makes no passes to report.
-fn after_step(o: Stepped) -> Answer
-    ensures { result ≡ after_step o }
+// A step or a pass makes no passes to report.
+fn left_if(ok: bool) -> Answer
+    ensures { result ≡ left_if ok }
 {
-    match o {
-        Stepped::Plan(_) => Answer::Done(0),
-        Stepped::NoPlan(e) => Answer::Refused(Refusal::NoPlan(e)),
+    if ok {
+        Answer::Done(0)
+    } else {
+        Answer::Refused(Refusal::NoPlan)
     }
 }
 
-// How many passes are made at most.
-fn most_asked(c: Call) -> u64
-    ensures { result ≡ most_asked c }
-{
-    match c {
-        Call::Pass => 1,
-        Call::Within(most) => most,
-        _ => ENOUGH_PASSES,
-    }
-}
-
-// Only settling reports a pass count.
-fn uncounted(a: Answer) -> Answer
-    ensures { result ≡ uncounted a }
-{
-    match a {
-        Answer::Done(_) => Answer::Done(0),
-        Answer::Refused(f) => Answer::Refused(f),
-    }
-}
-
-fn reported(c: Call, a: Answer) -> Answer
-    ensures { result ≡ reported c a }
-{
-    match c {
-        Call::Pass => uncounted(a),
-        _ => a,
-    }
-}
-
-// What is asked for, at least, on rows that passed the checks. A pass is settling within one, its count left out: the passes are made in one place, so
-// that they are compiled into it (docs/DECISIONS.md, 77).
+// What is asked for, at least, on rows that passed the checks.
 fn apply_at_least(
     c: Call,
     q: &[ResourceRow],
@@ -84,13 +54,21 @@ fn apply_at_least(
 {
     match c {
         Call::Check => Answer::Done(0),
-        Call::Balance => after_step(balance::balance(s)),
-        Call::Step(p) => after_step(passes::resource_step(q, b, s, p, keys, spare, ss)),
-        Call::MostPasses => Answer::Done(bound::most_passes(s)),
-        _ => {
-            let most = most_asked(c);
-            reported(c, passes::settle_rows(most, q, b, s, keys, spare, ss))
+        Call::Balance => {
+            let o = balance::balance(s);
+            left_if(o.ok)
         }
+        Call::Step(p) => {
+            let o = passes::resource_step(q, b, s, p, idle::no_steps(), keys, spare, ss);
+            left_if(o.ok)
+        }
+        Call::Pass => {
+            let o = passes::pass_rows(q, b, s, idle::EVERY_PLACE, keys, spare, ss);
+            left_if(o.ok)
+        }
+        Call::Settle => passes::settle_rows(ENOUGH_PASSES, q, b, s, keys, spare, ss),
+        Call::Within(most) => passes::settle_rows(most, q, b, s, keys, spare, ss),
+        Call::MostPasses => Answer::Done(bound::most_passes(s)),
     }
 }
 

@@ -47,19 +47,13 @@ fn header_in(got: Record) -> HeaderAnswer
     }
 }
 
-// The record at a file's start, from a reader that stands there.
-fn first_record(file: &[u8]) -> Record
-    ensures { result ≡ record_at file.now 0 }
-{
-    let r = reader::start(file);
-    reader::next(r)
-}
-
 // The PL record, read once and handed on.
 pub fn read_header(file: &[u8]) -> HeaderAnswer
     ensures { result ≡ read_header file.now }
 {
-    header_in(first_record(file))
+    let r = reader::start(file);
+    let got = reader::next(r);
+    header_in(got)
 }
 
 // All RS, or RH in place of RS, one after another, and the rows they make; behind so many bands, all TK.

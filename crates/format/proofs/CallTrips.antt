@@ -6,7 +6,6 @@ use mathlib.Core.List.{List, [], ◌∷◌}
 use Prim.Native.Nat.{ℕ, ◌≤◌, ◌<◌}
 use native.Mathlib.Omega.{arith}
 use lib.Dec.{ltb}
-use lib.IntN.{pos}
 use lib.ListN.{length, take, drop}
 use lib.Seq.{take_at, drop_at}
 use borrow.Author.Tests.{lt-ltb, le-ltb}
@@ -19,8 +18,8 @@ use Rattle.plan.specs.declared.Sense.TheVariants.{AtMost, AtLeast}
 use Rattle.plan.specs.declared.Checked.{Checked}
 use Rattle.plan.specs.declared.Checked.TheVariants.{Accepted}
 use Rattle.plan.specs.declared.Refusal.{Refusal}
-use Rattle.plan.specs.Refusals.{Told, told, told_refusal}
-use Rattle.plan.proofs.Refusals.{first_value, pos_once, told_refused, told_refusals}
+use Rattle.plan.specs.Refusals.{Told, told, number, place}
+use Rattle.plan.proofs.Refusals.{first_value, told_refused, told_refusals}
 use Rattle.rules.specs.Frame.{Frame, framed, resource_count}
 use Rattle.rules.specs.Calls.{or_else, check}
 use Rattle.rules.proofs.Checks.{past_all}
@@ -37,9 +36,9 @@ use Rattle.format.proofs.RoundTrip.{written_read, read_written, lent_is, lent_in
 laid_first : {A : Type 0} (n : ℕ) (xs ds : List A) → length xs ≡ n → take n (laid xs ds) ≡ xs
 laid_first n xs ds e = take_at xs (drop (length xs) ds) n e
 
-written_is : (c : Checked) (n : ℕ) (file out : List ℕ) → (written_unless c file out).answer ≡ told 0 (pos n ∷ []) → (c ≡ Accepted) × (length file ≡ n)
-written_is Accepted n file out e = (refl, pos_once (first_value (ap (λ (t : Told). t.values) e)))
-written_is (Checked.Refused f) n file out e = told_refused f (pos n ∷ []) e
+written_is : (c : Checked) (n : ℕ) (file out : List ℕ) → (written_unless c file out).answer ≡ told 0 (n ∷ []) → (c ≡ Accepted) × (length file ≡ n)
+written_is Accepted n file out e = (refl, first_value (ap (λ (t : Told). t.values) e))
+written_is (Checked.Refused f) n file out e = told_refused f (n ∷ []) e
 
 sense_once : (a b : Sense) → sense_number a ≡ sense_number b → a ≡ b
 sense_once AtMost AtMost e = refl
@@ -48,7 +47,7 @@ sense_once AtMost AtLeast e = absurd (omega arith)
 sense_once AtLeast AtMost e = absurd (omega arith)
 
 -- ---- "A plan written reads back the same"
-module _ (f : Frame) (ts : List Task) (ids : Each Identified f.resources) (out : List ℕ) (n : ℕ) (done : (write_call f ts out).answer ≡ told 0 (pos n ∷ [])) where
+module _ (f : Frame) (ts : List Task) (ids : Each Identified f.resources) (out : List ℕ) (n : ℕ) (done : (write_call f ts out).answer ≡ told 0 (n ∷ [])) where
   accepted : (check f ts ≡ Accepted) × (length (written f ts) ≡ n)
   unfolding write_call
   accepted =
@@ -64,7 +63,7 @@ module _ (f : Frame) (ts : List Task) (ids : Each Identified f.resources) (out :
   write_lays = rw buffer_is (laid_first n (written f ts) out accepted.1, drop_at (written f ts) (drop (length (written f ts)) out) n accepted.1 ∙ ap (λ (k : ℕ). drop k out) accepted.1)
 
   -- these bytes, read into lists that have room, are answered with the plan's sense and counts, and the first places hold the plan
-  pub write_then_read : (qs : List Resource) (bs : List Band) (us : List Task) → resource_count f ≤ length qs → length f.bands ≤ length bs → length ts ≤ length us → read_call (take n (write_call f ts out).buffer) qs bs us ≡ record { answer = told 0 (pos (sense_number f.sense) ∷ pos (resource_count f) ∷ pos (length f.bands) ∷ pos (length ts) ∷ []); resources = laid f.resources qs; bands = laid f.bands bs; tasks = laid ts us }
+  pub write_then_read : (qs : List Resource) (bs : List Band) (us : List Task) → resource_count f ≤ length qs → length f.bands ≤ length bs → length ts ≤ length us → read_call (take n (write_call f ts out).buffer) qs bs us ≡ record { answer = told 0 (sense_number f.sense ∷ resource_count f ∷ length f.bands ∷ length ts ∷ []); resources = laid f.resources qs; bands = laid f.bands bs; tasks = laid ts us }
   unfolding read_call
   write_then_read qs bs us p b r =
       let back = written_read f ts (record { identifiers = ids; passes = accepted.0 }) in
@@ -82,9 +81,9 @@ module _ (file : List ℕ) (bytes : AllBytes file) (qs : List Resource) (bs : Li
       tasks : take m left.tasks ≡ us
       plan : read_lent (length qs) (length bs) (length ts) file ≡ Read.Plan f us
 
-    held : (x : Read) → read_lent (length qs) (length bs) (length ts) file ≡ x → (read_into x qs bs ts).answer ≡ told 0 (pos (sense_number sense) ∷ pos n ∷ pos k ∷ pos m ∷ []) → (f : Frame) × (us : List Task) × Held f us
+    held : (x : Read) → read_lent (length qs) (length bs) (length ts) file ≡ x → (read_into x qs bs ts).answer ≡ told 0 (sense_number sense ∷ n ∷ k ∷ m ∷ []) → (f : Frame) × (us : List Task) × Held f us
     unfolding read_call
-    held (Read.Refuse g) e d = told_refused g (pos (sense_number sense) ∷ pos n ∷ pos k ∷ pos m ∷ []) d
+    held (Read.Refuse g) e d = told_refused g (sense_number sense ∷ n ∷ k ∷ m ∷ []) d
     held (Read.Plan f us) e d =
         let vs = ap (λ (t : Told). t.values) d in
         let a : sense_number f.sense ≡ sense_number sense = cc in
@@ -93,7 +92,7 @@ module _ (file : List ℕ) (bytes : AllBytes file) (qs : List Resource) (bs : Li
         let g : length us ≡ m = cc in
         (f, us, record { frame = rw (e, laid_first n f.resources qs b, laid_first k f.bands bs c, sense_once sense f.sense (sym a)); tasks = rw (e, laid_first m us ts g); plan = e })
 
-    pub read_then_write : left.answer ≡ told 0 (pos (sense_number sense) ∷ pos n ∷ pos k ∷ pos m ∷ []) → (out : List ℕ) → length file ≤ length out → write_call (framed sense (take n left.resources) (take k left.bands)) (take m left.tasks) out ≡ record { answer = told 0 (pos (length file) ∷ []); buffer = laid file out }
+    pub read_then_write : left.answer ≡ told 0 (sense_number sense ∷ n ∷ k ∷ m ∷ []) → (out : List ℕ) → length file ≤ length out → write_call (framed sense (take n left.resources) (take k left.bands)) (take m left.tasks) out ≡ record { answer = told 0 (length file ∷ []); buffer = laid file out }
     unfolding write_call read_call room_for
     read_then_write d out l =
         let h = held (read_lent (length qs) (length bs) (length ts) file) refl d in
@@ -121,9 +120,9 @@ read_stays file qs bs ts h = unread (read_lent (length qs) (length bs) (length t
 
 -- ---- an answer is known by its number and values
 pub write_told_once : (a b : WriteAnswer) → told_write a ≡ told_write b → a ≡ b
-write_told_once (WriteAnswer.Written n) (WriteAnswer.Written m) e = ap WriteAnswer.Written (pos_once (first_value (ap (λ (t : Told). t.values) e)))
-write_told_once (WriteAnswer.Written n) (WriteAnswer.Refused g) e = told_refused g (pos n ∷ []) (sym e)
-write_told_once (WriteAnswer.Refused f) (WriteAnswer.Written m) e = told_refused f (pos m ∷ []) e
+write_told_once (WriteAnswer.Written n) (WriteAnswer.Written m) e = ap WriteAnswer.Written (first_value (ap (λ (t : Told). t.values) e))
+write_told_once (WriteAnswer.Written n) (WriteAnswer.Refused g) e = told_refused g (n ∷ []) (sym e)
+write_told_once (WriteAnswer.Refused f) (WriteAnswer.Written m) e = told_refused f (m ∷ []) e
 write_told_once (WriteAnswer.Refused f) (WriteAnswer.Refused g) e = ap WriteAnswer.Refused (told_refusals f g e)
 
 pub read_told_once : (a b : ReadAnswer) → told_read a ≡ told_read b → a ≡ b
@@ -135,19 +134,19 @@ read_told_once (ReadAnswer.Plan s n k m) (ReadAnswer.Plan s' n' k' m') e =
     let d : m ≡ m' = cc in
     let q = sense_once s s' a in
     cc
-read_told_once (ReadAnswer.Plan s n k m) (ReadAnswer.Refused g) e = told_refused g (pos (sense_number s) ∷ pos n ∷ pos k ∷ pos m ∷ []) (sym e)
-read_told_once (ReadAnswer.Refused f) (ReadAnswer.Plan s n k m) e = told_refused f (pos (sense_number s) ∷ pos n ∷ pos k ∷ pos m ∷ []) e
+read_told_once (ReadAnswer.Plan s n k m) (ReadAnswer.Refused g) e = told_refused g (sense_number s ∷ n ∷ k ∷ m ∷ []) (sym e)
+read_told_once (ReadAnswer.Refused f) (ReadAnswer.Plan s n k m) e = told_refused f (sense_number s ∷ n ∷ k ∷ m ∷ []) e
 read_told_once (ReadAnswer.Refused f) (ReadAnswer.Refused g) e = ap ReadAnswer.Refused (told_refusals f g e)
 
 -- ---- 1 to 6 and 13, then 10
-pub write_refused : (f : Frame) (ts : List Task) (out : List ℕ) (e : Refusal) → check f ts ≡ Checked.Refused e → write_call f ts out ≡ record { answer = told_refusal e; buffer = out }
+pub write_refused : (f : Frame) (ts : List Task) (out : List ℕ) (e : Refusal) → check f ts ≡ Checked.Refused e → write_call f ts out ≡ record { answer = told (number e) (place e ∷ []); buffer = out }
 unfolding write_call
 write_refused f ts out e h = rw h
 
-pub write_short : (f : Frame) (ts : List Task) (out : List ℕ) → check f ts ≡ Accepted → length out < length (written f ts) → write_call f ts out ≡ record { answer = told 10 (pos 0 ∷ []); buffer = out }
+pub write_short : (f : Frame) (ts : List Task) (out : List ℕ) → check f ts ≡ Accepted → length out < length (written f ts) → write_call f ts out ≡ record { answer = told 10 (0 ∷ []); buffer = out }
 unfolding write_call room_for
 write_short f ts out ok l = rw (ok, lt-ltb (length out) (length (written f ts)) l)
 
-pub write_done : (f : Frame) (ts : List Task) (out : List ℕ) → check f ts ≡ Accepted → length (written f ts) ≤ length out → write_call f ts out ≡ record { answer = told 0 (pos (length (written f ts)) ∷ []); buffer = laid (written f ts) out }
+pub write_done : (f : Frame) (ts : List Task) (out : List ℕ) → check f ts ≡ Accepted → length (written f ts) ≤ length out → write_call f ts out ≡ record { answer = told 0 (length (written f ts) ∷ []); buffer = laid (written f ts) out }
 unfolding write_call room_for
 write_done f ts out ok l = rw (ok, le-ltb (length out) (length (written f ts)) l)

@@ -1,5 +1,5 @@
 -- What is read, and every refusal of a file in the page's order; what the reading call answers and leaves.
-use Rattle.std.specs.Prelude.{◌≡◌, List, [], ◌∷◌, not, ℕ, zero, suc, ◌+◌, ◌≤◌, ℤ, pos, eqb, ltb, length, take, drop}
+use Rattle.std.specs.Prelude.{◌≡◌, List, [], ◌∷◌, not, ℕ, zero, suc, ◌+◌, ◌≤◌, ℤ, eqb, ltb, length, take, drop}
 use Rattle.integers.specs.Tests.{if, or}
 use Rattle.plan.specs.declared.Task.{Task}
 use Rattle.plan.specs.declared.Resource.{Resource}
@@ -175,7 +175,7 @@ read_lent places bandRoom room file = lent_after places bandRoom room file (read
 -- ---- the reading call
 -- the page's number and values of its answer: 0 with the sense and the three counts, or the refusal's number with its place
 abbrev pub told_read : ReadAnswer → Told
-told_read (ReadAnswer.Plan sense n k m) = told 0 (pos (sense_number sense) ∷ pos n ∷ pos k ∷ pos m ∷ [])
+told_read (ReadAnswer.Plan sense n k m) = told 0 (sense_number sense ∷ n ∷ k ∷ m ∷ [])
 told_read (ReadAnswer.Refused f) = told_refusal f
 
 -- the answer, so told, and the later contents of the three lent lists

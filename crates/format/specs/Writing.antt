@@ -1,5 +1,5 @@
 -- What is written: "One PL, all RS, all TK, nothing more", and the bands "after all RS and before TK"; and what the writing call answers and leaves.
-use Rattle.std.specs.Prelude.{◌≡◌, List, [], ◌∷◌, ◌++◌, ℕ, ◌+◌, ◌<◌, ◌^◌, pos, ltb, length, drop}
+use Rattle.std.specs.Prelude.{◌≡◌, List, [], ◌∷◌, ◌++◌, ℕ, ◌+◌, ◌<◌, ◌^◌, ltb, length, drop}
 use Rattle.std.proofs.lemmas.List.Edits.{sets}
 use Rattle.std.specs.Int.{w32}
 use Rattle.std.proofs.Common.{SFits}
@@ -84,7 +84,7 @@ laid xs ds = xs ++ drop (length xs) ds
 
 -- the page's number and values of its answer: 0 with the file's length, or the refusal's number with its place
 abbrev pub told_write : WriteAnswer → Told
-told_write (Written n) = told 0 (pos n ∷ [])
+told_write (Written n) = told 0 (n ∷ [])
 told_write (Refused f) = told_refusal f
 
 -- the answer, so told, and the buffer's later contents

@@ -2,7 +2,9 @@
 use mathlib.Core.Path.{◌≡◌, refl, sym, ap, ap₂, ◌∙◌, subst}
 use mathlib.Core.Bool.{Bool, true, false, not}
 use mathlib.Core.List.{List, ◌∷◌}
-use Prim.Native.Nat.{ℕ, ◌^◌, ◌<◌}
+use Prim.Native.Nat.{ℕ, zero, suc, ◌-◌, ◌/◌, ◌%◌, ◌^◌, ◌≤◌, ◌<◌}
+use native.Mathlib.Nat.{not-suc-le-zero, le_of_suc-le-suc, two-pow-succ}
+use native.Mathlib.Omega.{arith}
 use lib.Dec.{eqb}
 use Rattle.integers.specs.Tests.{if, and, or, any}
 use Rattle.integers.specs.Lists.Each.{nothing, also}
@@ -15,7 +17,7 @@ use Rattle.plan.specs.declared.Checked.TheVariants.{Accepted}
 use Rattle.plan.specs.Sets.{has, only, at_most_one, without, union, differing}
 use Rattle.plan.proofs.Sets.{without_keeps, eqb_true, eqb_in, only_is, only_in, alone_only, at_most_one_only, same_set, union_has, differing_has}
 use Rattle.rules.specs.Frame.{Frame, resource_count, floor_at, Floor}
-use Rattle.rules.specs.Balance.{each, balance}
+use Rattle.rules.specs.Balance.{Outcome, each, balance}
 use Rattle.rules.specs.Balance.Outcome.{Plan}
 use Rattle.rules.specs.Step.{shortfall, narrowed, listed_days, at_least_step, sense_step, resource_step}
 use Rattle.rules.specs.Settle.{same_ranges, same_task, same_tasks}
@@ -29,13 +31,14 @@ use Rattle.rules.proofs.Sets.{kept_set_is, set_stayed}
 use Rattle.rules.proofs.Rooms.{same_ranges_is, same_task_is, same_tasks_self}
 use Rattle.rules.proofs.Elsewhere.{Alike, Beside, if_plan, step_elsewhere}
 use Rattle.rules.proofs.Elsewhere.Beside.{no_tasks, same_task_lem, other_task, other_set}
-use Rattle.rules.proofs.Checks.{check_live}
+use Rattle.rules.proofs.Checks.{accepts, check_live}
 use Rattle.rules.proofs.Keeps.{Sound, balance_sound, step_sound}
-use Rattle.rows.specs.Changes.{seen_by, touched_by}
+use Rattle.rows.specs.declared.Stepped.{Stepped}
+use Rattle.rows.specs.Changes.{plan_if, outcome_of, seen_by, touched_by, Notes}
 use Rattle.rows.proofs.Changes.{touched_tells}
 use Rattle.rows.proofs.Walk.{first_kept}
-use Rattle.idle.specs.declared.Progress.{Progress}
-use Rattle.idle.specs.Mask.{Idle, Noted, noted_after, Leaves}
+use Rattle.idle.specs.declared.Passed.{Passed}
+use Rattle.idle.specs.Mask.{Idle, Noted, Took}
 
 -- a place that is in neither of two sets
 pub union_none : (a b k : ℕ) → has (union a b) k ≡ false → (has a k ≡ false) × (has b k ≡ false)
@@ -135,7 +138,7 @@ step_untouched : (r : ℕ) (limit : Floor) (ts us : List Task) → Subs us ts �
 unfolding at_least_step
 step_untouched r limit ts us s l e h =
     untouched (narrowed r limit ts (listed_days ts)) r (λ t a v. narrowed_away r t a limit ts (listed_days ts) v) stays s l
-    (if_plan _ (any (shortfall r limit ts) (listed_days ts)) (each (narrowed r limit ts (listed_days ts)) ts) us e).1 h
+    (if_plan (any (shortfall r limit ts) (listed_days ts)) (each (narrowed r limit ts (listed_days ts)) ts) us e).1 h
   where
     stays : (t u : Task) → narrowed r limit ts (listed_days ts) t ≡ Kept u → has u.set r ≡ true → only u.set r ≡ false → u.set ≡ t.set
     stays t u p a o =
@@ -183,17 +186,34 @@ module _ (f : Frame) (least : f.sense ≡ AtLeast) (ts us : List Task) (a : chec
         changed = changed_after before;
       }
 
--- ---- what is noted of steps that left a plan
-module _ (f : Frame) (least : f.sense ≡ AtLeast) (ts us : List Task) (a : check f ts ≡ Accepted) (touched : ℕ) (n : touched ≡ touched_by ts us) where
-  pub balance_left : (mask : ℕ) → Idle mask f ts → balance ts ≡ Plan us → Leaves balance f false ts (record { changed = not (eqb touched 0); mask = union mask touched }) us
-  balance_left mask idle e =
-      let k : Keeps f ts us = subst (Sound f ts) e (balance_sound f ts a) in
-      record { outcome = e; noted = rw n (balance_noted f least ts us a k mask false idle) }
+-- ---- what is noted of steps that were taken
+module _ (f : Frame) (least : f.sense ≡ AtLeast) (ts us : List Task) (a : check f ts ≡ Accepted) (o : Stepped) (n : Notes o ts us) where
+  left : (x : Outcome) → outcome_of o us ≡ x → o.ok ≡ true → x ≡ Plan us
+  left x e ok = sym e ∙ ap (λ (b : Bool). plan_if b us) ok
 
-  pub step_left : (r : ℕ) → r < resource_count f → (p : Progress) → Idle p.mask f ts → resource_step f r ts ≡ Plan us → Leaves (resource_step f r) f p.changed ts (noted_after p r touched) us
-  step_left r l p idle e =
-      let k : Keeps f ts us = subst (Sound f ts) e (step_sound f r l ts a) in
-      record { outcome = e; noted = rw n (step_noted f least ts us a k p.mask p.changed r e idle) }
+  abbrev after : Bool → ℕ → Passed
+  after before mask = record { ok = o.ok; changed = or before (not (eqb o.touched 0)); mask = union mask o.touched }
+
+  pub balance_took : (mask : ℕ) → Idle mask f ts → outcome_of o us ≡ balance ts → Took balance f false ts (after false mask) us
+  balance_took mask idle e =
+      record {
+        outcome = e;
+        noted =
+            λ ok.
+            let k : Keeps f ts us = subst (Sound f ts) (left (balance ts) e ok) (balance_sound f ts a) in
+            rw (n ok) (balance_noted f least ts us a k mask false idle);
+      }
+
+  pub step_took : (r : ℕ) → r < resource_count f → (before : Bool) (mask : ℕ) → Idle mask f ts → outcome_of o us ≡ resource_step f r ts → Took (resource_step f r) f before ts (after before (without mask r)) us
+  step_took r l before mask idle e =
+      record {
+        outcome = e;
+        noted =
+            λ ok.
+            let s = left (resource_step f r ts) e ok in
+            let k : Keeps f ts us = subst (Sound f ts) s (step_sound f r l ts a) in
+            rw (n ok) (step_noted f least ts us a k mask before r s idle);
+      }
 
 -- ---- a step that is not due
 or_not : (b : Bool) → b ≡ or b (not true)
@@ -203,5 +223,23 @@ or_not false = refl
 pub unchanged_noted : (f : Frame) (ts : List Task) (mask : ℕ) (before : Bool) → Idle mask f ts → Noted f ts ts before before mask
 unchanged_noted f ts mask before idle = record { idle = idle; changed = rw (same_tasks_self ts) (or_not before) }
 
-pub rest_left : (f : Frame) (ts : List Task) (p : Progress) → Idle p.mask f ts → (r : ℕ) → r < resource_count f → has p.mask r ≡ false → Leaves (resource_step f r) f p.changed ts p ts
-rest_left f ts p idle r l clear = record { outcome = idle r l clear; noted = unchanged_noted f ts p.mask p.changed idle }
+pub rest_took : (f : Frame) (ts : List Task) (p : Passed) → p.ok ≡ true → Idle p.mask f ts → (r : ℕ) → r < resource_count f → has p.mask r ≡ false → Took (resource_step f r) f p.changed ts p ts
+rest_took f ts p ok idle r l clear =
+    record { outcome = rw ok (sym (idle r l clear)); noted = λ e. unchanged_noted f ts p.mask p.changed idle }
+
+-- ---- with every bit set, nothing is claimed
+ones : (m : ℕ) → (2 ^ suc m - 1) / 2 ≡ 2 ^ m - 1
+ones m = omega (arith, two-pow-succ m)
+
+has_ones : (m k : ℕ) → k < m → has (2 ^ m - 1) k ≡ true
+unfolding has
+has_ones zero k h = absurd (not-suc-le-zero h)
+has_ones (suc m) zero h = eqb_in ((2 ^ suc m - 1) % 2) 1 (omega (arith, two-pow-succ m, pow_some m))
+  where
+    pow_some : (m : ℕ) → 1 ≤ 2 ^ m
+    pow_some zero = omega arith
+    pow_some (suc m) = let q = pow_some m in omega (arith, two-pow-succ m)
+has_ones (suc m) (suc k) h = rw (ones m) (has_ones m k (le_of_suc-le-suc h))
+
+pub all_idle : (f : Frame) (ts : List Task) → check f ts ≡ Accepted → Idle (2 ^ 64 - 1) f ts
+all_idle f ts a r h c = clash (has (2 ^ 64 - 1) r) (has_ones 64 r (let m = (accepts f ts a).most in omega arith)) c

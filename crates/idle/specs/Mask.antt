@@ -1,14 +1,14 @@
 -- The mask: a bit for each resource whose step may still change something. A bit that is clear saves a step and changes no answer.
-use Rattle.std.specs.Prelude.{◌≡◌, Bool, false, not, List, [], ◌∷◌, ℕ, ◌<◌, eqb}
+use Rattle.std.specs.Prelude.{◌≡◌, Bool, true, false, not, List, [], ◌∷◌, ℕ, ◌<◌}
 use Rattle.integers.specs.Tests.{if, or}
 use Rattle.plan.specs.declared.Task.{Task}
-use Rattle.plan.specs.Sets.{has, without, union}
+use Rattle.plan.specs.Sets.{has, union}
 use Rattle.rules.specs.Frame.{Frame, resource_count}
 use Rattle.rules.specs.Balance.{Outcome}
-use Rattle.rules.specs.Balance.Outcome.{NoPlan, Plan}
+use Rattle.rules.specs.Balance.Outcome.{Plan}
 use Rattle.rules.specs.Step.{resource_step}
 use Rattle.rules.specs.Settle.{same_tasks}
-use Rattle.idle.specs.declared.Progress.{Progress}
+use Rattle.rows.specs.Changes.{plan_if}
 use Rattle.idle.specs.declared.Passed.{Passed}
 use Rattle.idle.specs.Lively.{lively}
 
@@ -26,16 +26,7 @@ pub record Noted (f : Frame) (ts us : List Task) (before after : Bool) (mask : �
   pub idle : Idle mask f us
   pub changed : after ≡ or before (not (same_tasks ts us))
 
--- what is to be noted after a step of r that touched these places: its bit is cleared, unless it touched r itself
-abbrev pub noted_after : Progress → ℕ → ℕ → Progress
-noted_after p r touched = record { changed = or p.changed (not (eqb touched 0)); mask = union (without p.mask r) touched }
-
--- some steps were taken on ts and left the plan us, as the page has it: the mask is right, and what has changed so far is noted
-pub record Leaves (taken : List Task → Outcome) (f : Frame) (before : Bool) (ts : List Task) (p : Progress) (us : List Task) : Type 0 where
-  pub outcome : taken ts ≡ Plan us
-  pub noted : Noted f ts us before p.changed p.mask
-
--- or they found no plan, for the page's reason
-abbrev pub Took : (List Task → Outcome) → Frame → Bool → List Task → Passed → List Task → Type 0
-Took taken f before ts (Passed.Plan p) us = Leaves taken f before ts p us
-Took taken f before ts (Passed.NoPlan e) us = taken ts ≡ NoPlan e
+-- some steps were taken on ts and left us: a plan or none, as the page has it; of a plan the mask is right, and what has changed so far is noted
+pub record Took (taken : List Task → Outcome) (f : Frame) (before : Bool) (ts : List Task) (p : Passed) (us : List Task) : Type 0 where
+  pub outcome : plan_if p.ok us ≡ taken ts
+  pub noted : p.ok ≡ true → Noted f ts us before p.changed p.mask

@@ -1,27 +1,35 @@
 // Which resources' steps would change nothing: the lively tasks and where they may stand; and the laws of the mask, which saves steps and is no
 // part of any answer.
-ghost use Rattle.std.specs.Prelude.{◌≡◌};
+ghost use Rattle.std.specs.Prelude.{◌≡◌, true, false, ◌-◌, ◌^◌};
 ghost use Rattle.integers.specs.Tests.{if};
 ghost use Rattle.plan.specs.Sets.{union};
 ghost use Rattle.rows.specs.View.{tasks_of};
 ghost use Rattle.idle.specs.Lively.{lively};
 ghost use Rattle.idle.specs.Mask.{lively_places};
 
-use plan::{Reason, Task};
+use plan::Task;
 use rows::TaskRow;
 
-// What is noted of steps that left a plan: something changed, and which resources may still change something.
+// What steps have done so far: a plan is left, something changed, and which resources may still change something.
 #[derive(Drop)]
-pub struct Progress {
+pub struct Passed {
+    pub ok: bool,
     pub changed: bool,
     pub mask: u64,
 }
 
-// What steps come to: a plan is left, and what is noted; or why none is.
-#[derive(Drop)]
-pub enum Passed {
-    Plan(Progress),
-    NoPlan(Reason),
+// Each resource may change something.
+pub const EVERY_PLACE: u64 = 0xffff_ffff_ffff_ffff;
+
+// No step is taken yet.
+pub fn no_steps() -> Passed
+    ensures { (result.ok ≡ true) × (result.changed ≡ false) × (result.mask ≡ 2 ^ 64 - 1) }
+{
+    Passed {
+        ok: true,
+        changed: false,
+        mask: EVERY_PLACE,
+    }
 }
 
 // Whether the task can be sure, hold a day or be touched by a bar: it has a day on which it is under way wherever it starts, or one resource only.

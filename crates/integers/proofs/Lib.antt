@@ -5,5 +5,4 @@ pub mod Lists
 pub mod Sums
 pub mod Loops
 pub mod Hull
-pub mod Firsts
 pub mod Least

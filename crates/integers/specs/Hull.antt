@@ -3,7 +3,7 @@ use Rattle.std.specs.Prelude.{List, [], ◌∷◌, Bool, ℕ, zero, suc, ℤ, po
 use Rattle.std.proofs.Math.IntN.{suc_ℤ}
 use Rattle.std.specs.Int.Signed.{le_z}
 use Rattle.integers.specs.Whole.{eq_z}
-use Rattle.integers.specs.Tests.{if, and, filter}
+use Rattle.integers.specs.Tests.{and, filter}
 
 -- lowest and highest value, both inside
 pub record Range : Type 0 where
@@ -59,11 +59,6 @@ pub data Left : Type 0 where
 unfoldable pub hull : List ℤ → Left
 hull [] = Nothing
 hull (x ∷ xs) = Some (range x (last x xs))
-
--- the first of them that passes; 0 where none does
-unfoldable pub first_of : (ℤ → Bool) → List ℤ → ℤ
-first_of p [] = pos 0
-first_of p (x ∷ xs) = if (p x) x (first_of p xs)
 
 -- what a test leaves of a range; values dropped in between stay inside
 unfoldable pub left : (ℤ → Bool) → Range → Left

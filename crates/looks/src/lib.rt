@@ -6,72 +6,20 @@ ghost use Rattle.plan.specs.Tasks.{most_resources, most_bands, most_tasks};
 ghost use Rattle.rows.specs.View.{tasks_of};
 ghost use Rattle.bound.specs.Entered.{Entered};
 ghost use Rattle.format.specs.Reading.{read_plan};
-ghost use Rattle.answers.specs.Files.{day_number, reason_number, detail_number, answer_number, read_number, check_file, most_file};
+ghost use Rattle.answers.specs.Files.{answer_number, read_number, check_file, most_file};
 ghost use Rattle.looks.specs.Looked.{looked_for};
 
 use format::{HeaderAnswer, Run};
-use plan::{Day, Detail, MOST_BANDS, MOST_RESOURCES, MOST_TASKS, Reason, Refusal};
+use plan::{MOST_BANDS, MOST_RESOURCES, MOST_TASKS, Refusal};
 use rows::{BAND_CELLS, BandRow, RESOURCE_CELLS, ResourceRow, TASK_CELLS, TaskRow};
 
-// ---- include/gristwaltz.h: the refusal number times 2^32 plus the place or the reason
-
+// include/gristwaltz.h: the refusal number times 2^32 plus the place.
 const PLACES: u64 = 1 << 32;
-
-// "2^30 + resource x 2^18 + day + 100,000"
-const DAY_REASON: u64 = 1 << 30;
-
-const RESOURCES: u64 = 1 << 12;
-
-const DAYS: u64 = 1 << 18;
-
-// "2^31 + task x 8 + value"
-const TASK_REASON: u64 = 1 << 31;
-
-const TASKS: u64 = 1 << 28;
-
-const VALUES: u64 = 8;
-
-// The days since the first there is. Every day of a reason is within its ends; the tests stand here so that nothing is asked of a caller.
-fn day_number(d: Day) -> u64
-    ensures { result ≡ day_number d.0 }
-{
-    if d.before(Day::LOW) {
-        return 0;
-    }
-    if Day::HIGH.before(d) {
-        return 0;
-    }
-    d.since(Day::LOW)
-}
-
-fn reason_number(e: Reason) -> u64
-    ensures { result ≡ reason_number e }
-{
-    match e {
-        Reason::Short(s) => {
-            let day = s.day;
-            DAY_REASON + ((s.place as u64) % RESOURCES * DAYS + day_number(day))
-        }
-        Reason::Emptied(s) => {
-            let value = s.value;
-            TASK_REASON + ((s.task as u64) % TASKS * VALUES + value.number())
-        }
-    }
-}
-
-fn detail_number(d: Detail) -> u64
-    ensures { result ≡ detail_number d }
-{
-    match d {
-        Detail::Place(k) => (k as u64) % PLACES,
-        Detail::Because(e) => reason_number(e),
-    }
-}
 
 pub fn refusal_number(f: Refusal) -> u64
     ensures { result ≡ answer_number (Refused f) }
 {
-    f.number() * PLACES + detail_number(f.detail())
+    f.number() * PLACES + (f.place() as u64) % PLACES
 }
 
 // 0; or, where they are asked for, the most passes.

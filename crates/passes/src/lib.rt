@@ -1,20 +1,18 @@
 // Pass and settle over the core's rows, sense at least. A mask of resources that may still change something saves steps: it is no part of any
 // answer.
-ghost use Rattle.std.specs.Prelude.{◌≡◌, false, not, ◌<◌, eqb, length};
+ghost use Rattle.std.specs.Prelude.{◌≡◌, true, false, not, ◌<◌, eqb, length};
 ghost use Rattle.integers.specs.Tests.{or};
 ghost use Rattle.plan.specs.declared.Call.TheVariants.{Within};
-ghost use Rattle.plan.specs.Sets.{set_bits};
 ghost use Rattle.rules.specs.Frame.{places};
 ghost use Rattle.rules.specs.Step.{resource_step};
 ghost use Rattle.rules.specs.Settle.{steps, pass};
 ghost use Rattle.rows.specs.View.{tasks_of, at_least};
-ghost use Rattle.rows.specs.Changes.{outcome_of, Notes};
-ghost use Rattle.idle.specs.Mask.{Idle, noted_after};
+ghost use Rattle.idle.specs.Mask.{Idle};
 ghost use Rattle.passes.specs.Ready.{Ready, TookRows, AnsweredRows};
 
-use idle::{Passed, Progress};
+use idle::Passed;
 use plan::{Answer, Refusal};
-use rows::{BandRow, ResourceRow, Stepped, TaskRow};
+use rows::{BandRow, ResourceRow, TaskRow};
 use stretches::StretchRow;
 
 fn some_touched(changed: bool, touched: u64) -> bool
@@ -23,35 +21,30 @@ fn some_touched(changed: bool, touched: u64) -> bool
     changed || touched != 0
 }
 
-// What is to be noted after a step of r that touched these places.
-fn noted(p: Progress, r: u64, touched: u64) -> Progress
-    requires { r < set_bits }
-    ensures { result ≡ noted_after p r touched }
-{
-    Progress {
-        changed: some_touched(p.changed, touched),
-        mask: plan::without_resource(p.mask, r) | touched,
-    }
-}
-
-// The step of the resource at a place.
+// The step of the resource at a place, and what is to be noted of it.
 pub fn resource_step(
     q: &[ResourceRow],
     b: &[BandRow],
     s: &mut [TaskRow],
     r: usize,
+    p: Passed,
     keys: &mut [u64],
     spare: &mut [u64],
     ss: &mut [StretchRow],
-) -> Stepped
-    requires { (r < length q.now) × Ready q.now b.now s.old keys.old spare.old ss.old }
-    ensures outcome { outcome_of result (tasks_of s.new) ≡ resource_step (at_least q.now b.now) r (tasks_of s.old) }
-    ensures noted { Notes result (tasks_of s.old) (tasks_of s.new) }
+) -> Passed
+    requires r_in_bounds { (r < length q.now) × Ready q.now b.now s.old keys.old spare.old ss.old }
+    requires idle { Idle p.mask (at_least q.now b.now) (tasks_of s.old) }
+    ensures { TookRows (λ f. resource_step f r) q.now b.now p.changed s.old result s.new }
 {
     let k = r as u64;
     let limit = rows::limit_at(q, r);
     let kind = rows::kind_at(q, r);
-    step::step(s, b, k, limit, kind, keys, spare, ss)
+    let o = step::step(s, b, k, limit, kind, keys, spare, ss);
+    Passed {
+        ok: o.ok,
+        changed: some_touched(p.changed, o.touched),
+        mask: plan::without_resource(p.mask, k) | o.touched,
+    }
 }
 
 // The steps in list order, on what balance left, of the resources whose bits say that they may change something. The next is looked for after each
@@ -60,33 +53,29 @@ fn steps_rows(
     q: &[ResourceRow],
     b: &[BandRow],
     s: &mut [TaskRow],
-    first: Progress,
+    first: Passed,
     keys: &mut [u64],
     spare: &mut [u64],
     ss: &mut [StretchRow],
 ) -> Passed
-    requires ready { Ready q.now b.now s.old keys.old spare.old ss.old }
+    requires ok_value { (first.ok ≡ true) × Ready q.now b.now s.old keys.old spare.old ss.old }
     requires idle { Idle first.mask (at_least q.now b.now) (tasks_of s.old) }
     ensures { TookRows (λ f. steps f (places f)) q.now b.now first.changed s.old result s.new }
 {
     let mut p = first;
     let mut r = plan::lowest_resource(p.mask) as usize;
     while r < q.len() {
-        match resource_step(q, b, s, r, keys, spare, ss) {
-            Stepped::NoPlan(e) => {
-                return Passed::NoPlan(e);
-            }
-            Stepped::Plan(touched) => {
-                p = noted(p, r as u64, touched);
-            }
+        p = resource_step(q, b, s, r, p, keys, spare, ss);
+        if !p.ok {
+            return p;
         }
         r = plan::next_resource(p.mask, r as u64) as usize;
     }
-    Passed::Plan(p)
+    p
 }
 
 // Balance, then each resource's step.
-fn pass_rows(
+pub fn pass_rows(
     q: &[ResourceRow],
     b: &[BandRow],
     s: &mut [TaskRow],
@@ -98,16 +87,16 @@ fn pass_rows(
     requires { Ready q.now b.now s.old keys.old spare.old ss.old × Idle mask (at_least q.now b.now) (tasks_of s.old) }
     ensures { TookRows pass q.now b.now false s.old result s.new }
 {
-    match balance::balance(s) {
-        Stepped::NoPlan(e) => Passed::NoPlan(e),
-        Stepped::Plan(touched) => {
-            let first = Progress {
-                changed: touched != 0,
-                mask: mask | touched,
-            };
-            steps_rows(q, b, s, first, keys, spare, ss)
-        }
+    let o = balance::balance(s);
+    let first = Passed {
+        ok: o.ok,
+        changed: o.touched != 0,
+        mask: mask | o.touched,
+    };
+    if !o.ok {
+        return first;
     }
+    steps_rows(q, b, s, first, keys, spare, ss)
 }
 
 // Passes until one changes nothing, at most so many.
@@ -126,18 +115,15 @@ pub fn settle_rows(
     let mut mask: u64 = idle::lively_places(s);
     let mut passes: u64 = 0;
     while passes < most {
-        match pass_rows(q, b, s, mask, keys, spare, ss) {
-            Passed::NoPlan(e) => {
-                return Answer::Refused(Refusal::NoPlan(e));
-            }
-            Passed::Plan(p) => {
-                passes += 1;
-                if !p.changed {
-                    return Answer::Done(passes);
-                }
-                mask = p.mask;
-            }
+        let p = pass_rows(q, b, s, mask, keys, spare, ss);
+        if !p.ok {
+            return Answer::Refused(Refusal::NoPlan);
         }
+        passes += 1;
+        if !p.changed {
+            return Answer::Done(passes);
+        }
+        mask = p.mask;
     }
     Answer::Done(0)
 }

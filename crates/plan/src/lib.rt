@@ -8,7 +8,7 @@ ghost use Rattle.integers.specs.Whole.{larger, smaller, eq_z};
 ghost use Rattle.integers.specs.Hull.{within, same_range, fits};
 ghost use Rattle.plan.specs.Days.{day, day_ends, duration_ends, days_of, span_of, cut_below, cut_above, cut_to, empty_span};
 ghost use Rattle.plan.specs.Powers.{power, power_ends, powers_of, power_span_of, negated_power, negated_powers};
-ghost use Rattle.plan.specs.Refusals.{number, detail, place, value_number};
+ghost use Rattle.plan.specs.Refusals.{number, place};
 ghost use Rattle.plan.specs.Sets.{set_bits, has, only, at_most_one, without, size, lowest, next};
 ghost use Rattle.plan.specs.Tasks.{most_tasks, most_resources, most_bands};
 
@@ -368,21 +368,6 @@ pub enum Value {
     Set,
 }
 
-impl Value {
-    // "value 0 to 4 in the order above"
-    pub fn number(self) -> u64
-        ensures { result ≡ value_number self }
-    {
-        match self {
-            Value::Origin => 0,
-            Value::Duration => 1,
-            Value::End => 2,
-            Value::Height => 3,
-            Value::Set => 4,
-        }
-    }
-}
-
 // One task after a step: what is left of it, or the first value of which nothing is left.
 #[derive(Drop)]
 pub enum Narrowed {
@@ -390,28 +375,7 @@ pub enum Narrowed {
     RanOut(Value),
 }
 
-// "A shortfall holds resource and day": the place of the resource, and the earliest day on which it falls short.
-#[derive(Drop)]
-pub struct Shortfall {
-    pub place: usize,
-    pub day: Day,
-}
-
-// "an emptied value holds task and value"
-#[derive(Drop)]
-pub struct Emptied {
-    pub task: usize,
-    pub value: Value,
-}
-
-// "With refusal 7 give the first reason in the order of the steps: a shortfall, or a value that ran out."
-#[derive(Drop)]
-pub enum Reason {
-    Short(Shortfall),
-    Emptied(Emptied),
-}
-
-// "Numbered refusals", in the order of their numbers; what a case holds is its place, or the reason why there is no plan.
+// "Numbered refusals", in the order of their numbers; what a case holds is its place.
 #[derive(Drop)]
 pub enum Refusal {
     TooManyTasks,
@@ -420,20 +384,13 @@ pub enum Refusal {
     LimitOutside(usize),
     RangeOutside(usize),
     SetOutside(usize),
-    NoPlan(Reason),
+    NoPlan,
     WrongMark(usize),
     CutShort(usize),
     BufferShort,
     ListShort,
     NoSuchResource,
     BandOutside(usize),
-}
-
-// What stands beside a refusal's number: its place, or the reason why there is no plan.
-#[derive(Drop)]
-pub enum Detail {
-    Place(usize),
-    Because(Reason),
 }
 
 impl Refusal {
@@ -448,7 +405,7 @@ impl Refusal {
             Refusal::LimitOutside(_) => 4,
             Refusal::RangeOutside(_) => 5,
             Refusal::SetOutside(_) => 6,
-            Refusal::NoPlan(_) => 7,
+            Refusal::NoPlan => 7,
             Refusal::WrongMark(_) => 8,
             Refusal::CutShort(_) => 9,
             Refusal::BufferShort => 10,
@@ -458,34 +415,24 @@ impl Refusal {
         }
     }
 
-    // what the page gives beside the number
-    pub fn detail(self) -> Detail
-        ensures { result ≡ detail self }
-    {
-        match self {
-            Refusal::RepeatedIdentifier(k) => Detail::Place(k),
-            Refusal::LimitOutside(k) => Detail::Place(k),
-            Refusal::RangeOutside(k) => Detail::Place(k),
-            Refusal::SetOutside(k) => Detail::Place(k),
-            Refusal::NoPlan(e) => Detail::Because(e),
-            Refusal::WrongMark(k) => Detail::Place(k),
-            Refusal::CutShort(k) => Detail::Place(k),
-            Refusal::BandOutside(k) => Detail::Place(k),
-            Refusal::TooManyTasks => Detail::Place(0),
-            Refusal::ResourceCount => Detail::Place(0),
-            Refusal::BufferShort => Detail::Place(0),
-            Refusal::ListShort => Detail::Place(0),
-            Refusal::NoSuchResource => Detail::Place(0),
-        }
-    }
-
     // the page's place
     pub fn place(self) -> usize
         ensures { result ≡ place self }
     {
-        match self.detail() {
-            Detail::Place(k) => k,
-            Detail::Because(_) => 0,
+        match self {
+            Refusal::RepeatedIdentifier(k) => k,
+            Refusal::LimitOutside(k) => k,
+            Refusal::RangeOutside(k) => k,
+            Refusal::SetOutside(k) => k,
+            Refusal::WrongMark(k) => k,
+            Refusal::CutShort(k) => k,
+            Refusal::BandOutside(k) => k,
+            Refusal::TooManyTasks => 0,
+            Refusal::ResourceCount => 0,
+            Refusal::NoPlan => 0,
+            Refusal::BufferShort => 0,
+            Refusal::ListShort => 0,
+            Refusal::NoSuchResource => 0,
         }
     }
 }

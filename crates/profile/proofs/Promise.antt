@@ -1,5 +1,5 @@
 -- The promise: the stretches swept from a resource's sorted events tell each of its tasks what the page says of its days.
-use mathlib.Core.Path.{◌≡◌, refl, sym, ◌∙◌}
+use mathlib.Core.Path.{◌≡◌, sym, ◌∙◌}
 use mathlib.Core.Bool.{Bool, true, false, not}
 use mathlib.Core.List.{List, ◌++◌}
 use Prim.Native.Nat.{ℕ, ◌≤◌, ◌<◌}
@@ -12,11 +12,10 @@ use lib.Signed.{◌≤ℤ◌, ◌<ℤ◌, le_z, lt_z}
 use borrow.Author.Tests.{ltb-true, ltb-false}
 use Rattle.integers.specs.Tests.{and, any}
 use Rattle.integers.specs.Lists.{Each, In}
-use Rattle.integers.specs.Hull.{within, first_of}
-use Rattle.integers.specs.Whole.{eq_z}
+use Rattle.integers.specs.Hull.{within}
 use Rattle.integers.specs.Ends.{Within}
 use Rattle.integers.specs.Sums.{sum_of}
-use Rattle.integers.proofs.Z.{z, +z, -z, ~z, le_z_in, le_z_out, lt_z_in, lt_z_out, eq_z_in}
+use Rattle.integers.proofs.Z.{z, +z, -z, ~z, le_z_in, le_z_out, lt_z_in, lt_z_out}
 use Rattle.integers.proofs.Tests.{clash, by_cases, false_in, and_first, and_in, or_left, same_test, not_out, all_append, any_out, not_any}
 use Rattle.integers.proofs.Lists.{Place, any_place, each_in, each_at, each_so, each_all}
 use Rattle.integers.proofs.Hull.{within_is}
@@ -27,7 +26,7 @@ use Rattle.plan.specs.Tasks.{Bounded}
 use Rattle.plan.proofs.Sets.{only_has}
 use Rattle.rules.specs.Frame.{Floor}
 use Rattle.rules.specs.Step.{possible, running, sure, total, counts, shortfall, listed_days}
-use Rattle.rules.proofs.Days.{between, first_listed}
+use Rattle.rules.proofs.Days.{between}
 use Rattle.rules.proofs.TaskDay.{possible_is, sure_in}
 use Rattle.rules.proofs.Counted.{Counted, counted, begun_by_lem, begun_only, ends_after_lem, unended_only}
 use Rattle.sorting.specs.Order.{Sorted}
@@ -190,18 +189,20 @@ module _ (r : ℕ) (limit : Floor) (x : ℤ) (cs : List ℕ) (ts : List Task) (b
   tight_short : (i : ℤ) → shortfall r limit ts i ≡ true → tight_on r limit ts i <ℤ pos 0
   tight_short i e = let h = sym (short_tight r limit ts i) ∙ e in omega z
 
-  -- what holds of a day of shortfall holds of a listed day
-  short_listed : (q : ℤ → Bool) (i : ℤ) → shortfall r limit ts i ≡ true → q i ≡ true → any q (listed_days ts) ≡ true
-  short_listed q i e h =
+  -- a shortfall on any day is one on a listed day
+  short_listed : (i : ℤ) → shortfall r limit ts i ≡ true → any (shortfall r limit ts) (listed_days ts) ≡ true
+  short_listed i e =
       let c = short_counted i e in
       let b = begun_by_lem r i c.first c.has_begun in
       let g = ends_after_lem r i c.last c.goes_on_lem in
       let o = (each_in bs c.first_in).origin in
       let f = (each_in bs c.last_in).end in
-      by_cases (any q (listed_days ts)) (λ a. a)
+      by_cases (any (shortfall r limit ts) (listed_days ts)) (λ a. a)
       (λ a.
-      let n = between r (λ d. not (q d)) c.first c.last ts c.first_in c.last_in (not_any q (listed_days ts) a) i (omega z) (omega z) in
-      clash (q i) h (not_out (q i) n))
+      let n =
+      between r (λ d. not (shortfall r limit ts d)) c.first c.last ts c.first_in c.last_in (not_any (shortfall r limit ts) (listed_days ts) a) i
+      (omega z) (omega z) in
+      clash (shortfall r limit ts i) e (not_out (shortfall r limit ts i) n))
 
   -- and it lies in a stretch, which is tight
   short_place : (i : ℤ) → shortfall r limit ts i ≡ true → Place (on_day i) no_stretch told
@@ -248,7 +249,7 @@ module _ (r : ℕ) (limit : Floor) (x : ℤ) (cs : List ℕ) (ts : List Task) (b
     short_is : ltb k (length told) ≡ any (shortfall r limit ts) (listed_days ts)
     short_is =
         by_cases (ltb k (length told))
-        (λ e. let s = short_there (ltb-true k (length told) e) in e ∙ sym (short_listed (shortfall r limit ts) (first_day_lem k) s s))
+        (λ e. e ∙ sym (short_listed (first_day_lem k) (short_there (ltb-true k (length told) e))))
         (λ e.
         e ∙ sym (false_in (any (shortfall r limit ts) (listed_days ts)) λ a.
         let d = any_out (shortfall r limit ts) (listed_days ts) a in
@@ -265,17 +266,11 @@ module _ (r : ℕ) (limit : Floor) (x : ℤ) (cs : List ℕ) (ts : List Task) (b
         let b = chain_rises here.low.0 told spread.chain k p.at (short_after i e) p.inside in
         omega z
 
-    -- so it is the page's first
-    page_first : k < length told → first_of (shortfall r limit ts) (listed_days ts) ≡ first_day_lem k
-    page_first h =
-        let s = short_there h in
-        first_listed (shortfall r limit ts) ts (first_day_lem k) (short_listed (eq_z (first_day_lem k)) (first_day_lem k) s (eq_z_in (first_day_lem k) (first_day_lem k) refl)) s short_first
-
-  pub profile_of : (k : ℕ) → FirstShort told k → Profile r limit ts told k
+  pub profile_of : (k : ℕ) → FirstShort told k → Profile r limit ts told (ltb k (length told))
   profile_of k v =
       record {
         short_is = short_is k v;
-        day = page_first k v;
+        day = λ q u l. record { holds = short_there q u l; first = short_first q u };
         tells = tells;
       }
 
@@ -287,11 +282,12 @@ pub profiled : (r : ℕ) (limit : Floor) (x : ℤ) (cs : List ℕ) (ts : List Ta
     e ≡ extremes_of r no_extremes ts →
     Sweeps e (neg_ℤ x) ks ss m →
     FirstShort (take m ss) k →
-    Profile r limit ts (take m ss) k
+    Profile r limit ts (take m ss) (ltb k m)
 profiled r limit x cs ts ks e ss m k bs turns p q w s =
     let o : Sorted (keys_of r ts ++ cs) w.keys = rw p at w.sorted in
     let c = rw q at w.are in
-    rw (← c) at (profile_of r limit x cs ts bs (rw q at turns) w.keys o k (rw c at s))
+    let l : length (take m ss) ≡ m = length-take-le m ss w.few in
+    rw (← c, l) at (profile_of r limit x cs ts bs (rw q at turns) w.keys o k (rw c at s))
 
 -- the first short of all the rows, found among the first n
 pub first_in : (ss : List Stretch) (n k : ℕ) → n ≤ length ss → k ≤ n →

@@ -172,11 +172,11 @@ pub fn first_short(s: &[StretchRow], n: usize) -> usize
 
 // ---- all joined
 
-// How many stretches there are, and the first of them that falls short; as many as there are, where none does.
+// How many stretches there are, and whether there is a shortfall.
 #[derive(Drop)]
 pub struct Profiled {
     pub stretches: usize,
-    pub short: usize,
+    pub short: bool,
 }
 
 // The keys of r's bands behind the first n, and its limit on the first day: its own where there is no band, as in most plans.
@@ -243,8 +243,9 @@ pub fn profile(
     let l = put_floor(s, b, r, limit, kind, e, keys, n);
     let start = l.start;
     let m = sweep_events(keys, l.events, spare, start.negated(), e, ss);
+    let k = first_short(ss, m);
     Profiled {
         stretches: m,
-        short: first_short(ss, m),
+        short: k < m,
     }
 }

@@ -10,8 +10,6 @@ use Rattle.plan.specs.declared.Task.{Task}
 use Rattle.plan.specs.declared.Narrowed.{Narrowed}
 use Rattle.plan.specs.declared.Narrowed.TheVariants.{Kept, RanOut}
 use Rattle.plan.specs.declared.Value.{Value}
-use Rattle.plan.specs.declared.Reason.{Reason}
-use Rattle.plan.specs.Refusals.{emptied}
 use Rattle.rules.specs.Balance.{Outcome, and_then, each}
 use Rattle.rules.specs.Balance.Outcome.{NoPlan, Plan}
 use Rattle.rules.specs.Settle.{same_task}
@@ -21,7 +19,7 @@ use Rattle.plan.specs.Tasks.{no_task}
 use Rattle.rows.specs.Changes.{seen_by, touched_by}
 use Rattle.rows.proofs.Changes.{touched_self, touched_put}
 
-no_plan : {X : Type 0} {why : Reason} (us : List Task) → NoPlan why ≡ Plan us → X
+no_plan : {X : Type 0} (us : List Task) → NoPlan ≡ Plan us → X
 no_plan us h = let q : ◌≡◌ {A = ℕ} 0 1 = cc in absurd (omega arith)
 
 -- of the tasks ts, the first i are done, which made them us
@@ -78,7 +76,7 @@ module _ (f : Task → Narrowed) (ts : List Task) where
   pub walk_same : (i : ℕ) (us : List Task) (touched : ℕ) → i < length us → f (get_or us i no_task) ≡ Kept (get_or us i no_task) → Walk i us touched → Walk (i + 1) us touched
   walk_same i us touched l e w = record { begun = begun_same ts i us touched w.begun; left = each_same f no_task i us l e ∙ w.left }
 
-  pub walk_out : (i : ℕ) (us : List Task) (touched : ℕ) (v : Value) → i < length us → f (get_or us i no_task) ≡ RanOut v → Walk i us touched → each f ts ≡ NoPlan (emptied i v)
+  pub walk_out : (i : ℕ) (us : List Task) (touched : ℕ) (v : Value) → i < length us → f (get_or us i no_task) ≡ RanOut v → Walk i us touched → each f ts ≡ NoPlan
   walk_out i us touched v l e w = sym w.left ∙ each_out f no_task v i us l e
 
   pub walk_end : (i : ℕ) (us : List Task) (touched : ℕ) → length us ≤ i → Walk i us touched → each f ts ≡ Plan us
@@ -86,5 +84,5 @@ module _ (f : Task → Narrowed) (ts : List Task) where
 
 pub first_kept : (n : Narrowed) (o : Outcome) (u : Task) (us : List Task) → and_then n o ≡ Plan (u ∷ us) → (n ≡ Kept u) × (o ≡ Plan us)
 first_kept (RanOut v) o u us h = no_plan (u ∷ us) h
-first_kept (Kept v) (NoPlan why) u us h = no_plan (u ∷ us) h
+first_kept (Kept v) NoPlan u us h = no_plan (u ∷ us) h
 first_kept (Kept v) (Plan vs) u us h = (cc, cc)

@@ -1,5 +1,5 @@
--- What a step tells of a list that it changed in place: a plan, and which resources see a changed task; or why there is none.
-use Rattle.std.specs.Prelude.{◌≡◌, not, List, [], ◌∷◌, ℕ}
+-- What a step tells of a list that it changed in place: a plan or none, and which resources see a changed task.
+use Rattle.std.specs.Prelude.{◌≡◌, Bool, true, false, not, List, [], ◌∷◌, ℕ}
 use Rattle.integers.specs.Tests.{if, and}
 use Rattle.plan.specs.declared.Task.{Task}
 use Rattle.plan.specs.Sets.{at_most_one, union, differing}
@@ -9,9 +9,12 @@ use Rattle.rules.specs.Settle.{same_ranges, same_task}
 use Rattle.rows.specs.declared.Stepped.{Stepped}
 
 -- "A set or range left empty means no plan": what the list holds then counts for nothing
+abbrev pub plan_if : Bool → List Task → Outcome
+plan_if true ts = Plan ts
+plan_if false ts = NoPlan
+
 abbrev pub outcome_of : Stepped → List Task → Outcome
-outcome_of (Stepped.Plan touched) ts = Plan ts
-outcome_of (Stepped.NoPlan e) ts = NoPlan e
+outcome_of o ts = plan_if o.ok ts
 
 -- the resources that see a task t become u: those that it lost, where it lost only resources and still has more than one; else all that it had
 unfoldable pub seen_by : Task → Task → ℕ
@@ -25,5 +28,4 @@ touched_by (t ∷ ts) (u ∷ us) = if (same_task t u) (touched_by ts us) (union 
 
 -- what a step notes beside the list, where it leaves a plan
 abbrev pub Notes : Stepped → List Task → List Task → Type 0
-Notes (Stepped.Plan touched) ts us = touched ≡ touched_by ts us
-Notes (Stepped.NoPlan e) ts us = Unit {0}
+Notes o ts us = o.ok ≡ true → o.touched ≡ touched_by ts us

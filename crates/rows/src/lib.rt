@@ -11,7 +11,7 @@ ghost use Rattle.rows.specs.Changes.{seen_by};
 ghost use Rattle.rows.specs.View.{task_of, tasks_of, id_of, kind_of, resource_of, resources_of, with_limit, band_of, bands_of};
 
 use integers::WHOLE;
-use plan::{Band, Day, Kind, Power, PowerSpan, Reason, Resource, Span, Task};
+use plan::{Band, Day, Kind, Power, PowerSpan, Resource, Span, Task};
 
 // A row: set, then low and high of origin, duration, end and height.
 pub const TASK_CELLS: usize = 9;
@@ -268,11 +268,11 @@ fn seen_by(t: Task, u: Task) -> u64
     }
 }
 
-// What a step says of the list that it changed in place: a plan is left, and these places see a changed task; or why none is.
+// What a step says of the list that it changed in place: a plan is left, and the places that see a changed task.
 #[derive(Drop)]
-pub enum Stepped {
-    Plan(u64),
-    NoPlan(Reason),
+pub struct Stepped {
+    pub ok: bool,
+    pub touched: u64,
 }
 
 // A task put back as u, if that changed it; then the places that see the change are noted among the touched.

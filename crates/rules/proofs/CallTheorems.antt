@@ -5,18 +5,17 @@ use mathlib.Core.Path.{◌≡◌, refl, sym, ap, ◌∙◌}
 use Prim.Native.Nat.{ℕ, suc, ◌≤◌, ◌<◌}
 use mathlib.Core.List.{List, [], ◌∷◌, ◌++◌}
 use mathlib.Core.Bool.{true, false}
-use lib.IntN.{pos}
 use lib.ListN.{length}
 use borrow.Author.Tests.{lt-ltb, le-ltb}
-use Rattle.integers.specs.Tests.{all}
+use Rattle.integers.specs.Tests.{if, all}
+use Rattle.integers.proofs.Tests.{by_cases}
 use Rattle.plan.specs.declared.Task.{Task}
-use Rattle.plan.specs.declared.Reason.{Reason}
 use Rattle.plan.specs.declared.Call.{Call}
 use Rattle.plan.specs.declared.Call.TheVariants.{Check, Balance, Step, Pass, Settle}
 use Rattle.plan.specs.declared.Refusal.{Refusal}
 use Rattle.plan.specs.declared.Checked.{Checked}
 use Rattle.plan.specs.declared.Checked.TheVariants.{Accepted}
-use Rattle.plan.specs.Refusals.{told, reason_values, told_refusal}
+use Rattle.plan.specs.Refusals.{number, place, told}
 use Rattle.plan.proofs.Refusals.{told_none}
 use Rattle.rules.specs.Frame.{Frame, resource_count}
 use Rattle.rules.specs.Allowed.{Choice, inside_all, allowed}
@@ -34,11 +33,10 @@ use Rattle.rules.proofs.Calls.{call_refused, call_fair, call_stays}
 use Rattle.rules.proofs.Bounds.{check_number}
 use Rattle.rules.proofs.Ends.{settle_refused, settle_last, settle_more}
 use Rattle.rules.proofs.Theorems.{fixed_choice, settle_keeps, settle_stops}
-use Rattle.rules.proofs.FixedSteps.{plan_is, none_is}
 
 -- ---- any lists: a refusal of the entry checks is the answer, and "On each refusal, task lists and buffers keep their entry contents."
 module _ (c : Call) (f : Frame) (ts : List Task) where
-  pub entry_refused : (e : Refusal) → check f ts ≡ Checked.Refused e → list_call c f ts ≡ list_result (told_refusal e) ts
+  pub entry_refused : (e : Refusal) → check f ts ≡ Checked.Refused e → list_call c f ts ≡ list_result (told (number e) (place e ∷ [])) ts
   unfolding list_call
   entry_refused e h = rw (call_refused c f ts e h)
 
@@ -56,73 +54,73 @@ module _ (c : Call) (f : Frame) (ts : List Task) where
 
 -- ---- lists that pass the entry checks: check, balance, step, pass and settle are those of the page
 module _ (f : Frame) (ts : List Task) (ok : check f ts ≡ Accepted) where
-  pub check_done : list_call Check f ts ≡ list_result (told 0 (pos 0 ∷ [])) ts
+  pub check_done : list_call Check f ts ≡ list_result (told 0 (0 ∷ [])) ts
   unfolding list_call call_of
   check_done = rw ok
 
-  pub balance_done : (us : List Task) → balance ts ≡ Plan us → list_call Balance f ts ≡ list_result (told 0 (pos 0 ∷ [])) us
+  pub balance_done : (us : List Task) → balance ts ≡ Plan us → list_call Balance f ts ≡ list_result (told 0 (0 ∷ [])) us
   unfolding list_call call_of
   balance_done us e = rw (ok, e)
 
-  pub balance_none : {why : Reason} → balance ts ≡ NoPlan why → list_call Balance f ts ≡ list_result (told 7 (reason_values why)) ts
+  pub balance_none : balance ts ≡ NoPlan → list_call Balance f ts ≡ list_result (told 7 (0 ∷ [])) ts
   unfolding list_call call_of
   balance_none e = rw (ok, e)
 
   -- the step of the place that was named, and of no other
-  pub step_done : (r : ℕ) → r < resource_count f → (us : List Task) → resource_step f r ts ≡ Plan us → list_call (Step r) f ts ≡ list_result (told 0 (pos 0 ∷ [])) us
+  pub step_done : (r : ℕ) → r < resource_count f → (us : List Task) → resource_step f r ts ≡ Plan us → list_call (Step r) f ts ≡ list_result (told 0 (0 ∷ [])) us
   unfolding list_call call_of
   step_done r l us e = rw (ok, lt-ltb r (resource_count f) l, e)
 
-  pub step_none : {why : Reason} → (r : ℕ) → r < resource_count f → resource_step f r ts ≡ NoPlan why → list_call (Step r) f ts ≡ list_result (told 7 (reason_values why)) ts
+  pub step_none : (r : ℕ) → r < resource_count f → resource_step f r ts ≡ NoPlan → list_call (Step r) f ts ≡ list_result (told 7 (0 ∷ [])) ts
   unfolding list_call call_of
   step_none r l e = rw (ok, lt-ltb r (resource_count f) l, e)
 
-  pub step_nowhere : (r : ℕ) → resource_count f ≤ r → list_call (Step r) f ts ≡ list_result (told 12 (pos 0 ∷ [])) ts
+  pub step_nowhere : (r : ℕ) → resource_count f ≤ r → list_call (Step r) f ts ≡ list_result (told 12 (0 ∷ [])) ts
   unfolding list_call call_of
   step_nowhere r l = rw (ok, le-ltb r (resource_count f) l)
 
-  pub pass_done : (us : List Task) → pass f ts ≡ Plan us → list_call Pass f ts ≡ list_result (told 0 (pos 0 ∷ [])) us
+  pub pass_done : (us : List Task) → pass f ts ≡ Plan us → list_call Pass f ts ≡ list_result (told 0 (0 ∷ [])) us
   unfolding list_call call_of
   pass_done us e = rw (ok, e)
 
-  pub pass_none : {why : Reason} → pass f ts ≡ NoPlan why → list_call Pass f ts ≡ list_result (told 7 (reason_values why)) ts
+  pub pass_none : pass f ts ≡ NoPlan → list_call Pass f ts ≡ list_result (told 7 (0 ∷ [])) ts
   unfolding list_call call_of
   pass_none e = rw (ok, e)
 
   -- with its number of passes
-  pub settle_done : (k : ℕ) (us : List Task) → settle f ts ≡ After k us → list_call Settle f ts ≡ list_result (told 0 (pos k ∷ [])) us
+  pub settle_done : (k : ℕ) (us : List Task) → settle f ts ≡ After k us → list_call Settle f ts ≡ list_result (told 0 (k ∷ [])) us
   unfolding list_call call_of
   settle_done k us e = rw (ok, e)
 
-  pub settle_none : {why : Reason} → settle f ts ≡ Refused why → list_call Settle f ts ≡ list_result (told 7 (reason_values why)) ts
+  pub settle_none : settle f ts ≡ Refused → list_call Settle f ts ≡ list_result (told 7 (0 ∷ [])) ts
   unfolding list_call call_of
   settle_none e = rw (ok, e)
 
   -- and a pass on what settling left changes nothing
-  pub settled_stays : (k : ℕ) (us : List Task) → settle f ts ≡ After k us → list_call Pass f us ≡ list_result (told 0 (pos 0 ∷ [])) us
+  pub settled_stays : (k : ℕ) (us : List Task) → settle f ts ≡ After k us → list_call Pass f us ≡ list_result (told 0 (0 ∷ [])) us
   unfolding list_call call_of
   settled_stays k us e = rw ((settle_keeps f ts ok k us e).accepted, (settle_stops f ts ok k us e).settled)
 
   -- ---- a host that cuts off long calls goes on from what a pass left: settling is a pass, and settling what it left, with one pass fewer to
   -- count; where a pass changes nothing, it is settled
-  pub settle_first : {why : Reason} → pass f ts ≡ NoPlan why → list_call Settle f ts ≡ list_result (told 7 (reason_values why)) ts
+  pub settle_first : pass f ts ≡ NoPlan → list_call Settle f ts ≡ list_result (told 7 (0 ∷ [])) ts
   settle_first e = settle_none (settle_refused f ts ok e)
 
   module _ (us : List Task) (e : pass f ts ≡ Plan us) where
-    pub settle_at_once : same_tasks ts us ≡ true → list_call Settle f ts ≡ list_result (told 0 (pos 1 ∷ [])) us
+    pub settle_at_once : same_tasks ts us ≡ true → list_call Settle f ts ≡ list_result (told 0 (1 ∷ [])) us
     settle_at_once s = settle_done 1 us (settle_last f ts ok us e s)
 
-    pub settle_goes_on : same_tasks ts us ≡ false → (k : ℕ) (vs : List Task) → settle f us ≡ After k vs → list_call Settle f ts ≡ list_result (told 0 (pos (suc k) ∷ [])) vs
+    pub settle_goes_on : same_tasks ts us ≡ false → (k : ℕ) (vs : List Task) → settle f us ≡ After k vs → list_call Settle f ts ≡ list_result (told 0 (suc k ∷ [])) vs
     settle_goes_on s k vs g = settle_done (suc k) vs (settle_more f ts ok us e s ∙ ap one_pass_more g)
 
-    pub settle_goes_nowhere : {why : Reason} → same_tasks ts us ≡ false → settle f us ≡ Refused why → list_call Settle f ts ≡ list_result (told 7 (reason_values why)) ts
+    pub settle_goes_nowhere : same_tasks ts us ≡ false → settle f us ≡ Refused → list_call Settle f ts ≡ list_result (told 7 (0 ∷ [])) ts
     settle_goes_nowhere s g = settle_none (settle_more f ts ok us e s ∙ ap one_pass_more g)
 
   -- ---- one fixed choice: a pass is refused with 7 exactly if that choice breaks a rule, and else changes nothing
-  pub pass_of_one_choice : all one_value ts ≡ true → all one_resource ts ≡ true → (cs : List Choice) → inside_all ts cs ≡ true → (allowed f cs ≡ true → list_call Pass f ts ≡ list_result (told 0 (pos 0 ∷ [])) ts) × (allowed f cs ≡ false → (why : Reason) × (list_call Pass f ts ≡ list_result (told 7 (reason_values why)) ts))
+  pub pass_of_one_choice : all one_value ts ≡ true → all one_resource ts ≡ true → (cs : List Choice) → inside_all ts cs ≡ true → list_call Pass f ts ≡ list_result (told (if (allowed f cs) 0 7) (0 ∷ [])) ts
   pass_of_one_choice v w cs h =
       let p = fixed_choice f ts ok v w cs h in
-      (λ a. pass_done ts (plan_is (pass f ts) ts (rw a at p)), λ a. let n = none_is (pass f ts) (rw a at p) in (n.why, pass_none n.is))
+      by_cases (allowed f cs) (λ a. rw a (pass_done ts (rw a at p))) (λ a. rw a (pass_none (rw a at p)))
 
   one_keeps : (c : Call) → Keeps f ts (list_call c f ts).tasks
   unfolding list_call
@@ -130,7 +128,7 @@ module _ (f : Frame) (ts : List Task) (ok : check f ts ≡ Accepted) where
 
   one_refuses : (c : Call) → (list_call c f ts).answer.number ≡ 7 → HoldsNone f ts
   unfolding list_call
-  one_refuses c e = let n = told_none (call_of c f ts).answer e in (call_fair f ts c ok).none n.reason n.is
+  one_refuses c e = (call_fair f ts c ok).none (told_none (call_of c f ts).answer e)
 
 -- ---- any calls in a row, each on what the one before left: the allowed plans are the very same ones all along, and so is their number; 7 comes
 -- only if the ranges entered held none

@@ -7,7 +7,6 @@ use native.Mathlib.Omega.{arith}
 use borrow.Author.Tests.{ltb-true}
 use Rattle.integers.proofs.Tests.{by_cases}
 use Rattle.plan.specs.declared.Task.{Task}
-use Rattle.plan.specs.declared.Reason.{Reason}
 use Rattle.plan.specs.declared.Call.{Call}
 use Rattle.plan.specs.declared.Call.TheVariants.{Check, Balance, Step, Pass, Settle, Within, MostPasses}
 use Rattle.plan.specs.declared.Refusal.{Refusal}
@@ -42,21 +41,21 @@ module _ (c : Call) (f : Frame) (ts : List Task) where
 -- ---- what a call answers and leaves of an accepted plan: the same allowed plans; 7 only where there is none; on a refusal what entered
 pub record Fair (f : Frame) (ts : List Task) (x : Result) : Type 0 where
   pub keeps : Keeps f ts x.tasks
-  pub none : (why : Reason) → x.answer ≡ Refused (NoPlan why) → HoldsNone f ts
+  pub none : x.answer ≡ Refused NoPlan → HoldsNone f ts
 
 module _ (f : Frame) (ts : List Task) where
-  not_done : {P : Type 0} (n : ℕ) (why : Reason) → Done n ≡ Refused (NoPlan why) → P
-  not_done n why e = let q : ◌≡◌ {A = ℕ} 0 1 = cc in absurd (omega arith)
+  not_done : {P : Type 0} (n : ℕ) → Done n ≡ Refused NoPlan → P
+  not_done n e = let q : ◌≡◌ {A = ℕ} 0 1 = cc in absurd (omega arith)
 
-  pub refused_fair : (e : Refusal) → check f ts ≡ Accepted → ((why : Reason) → Refused e ≡ Refused (NoPlan why) → HoldsNone f ts) → Fair f ts (refused e ts)
+  pub refused_fair : (e : Refusal) → check f ts ≡ Accepted → (Refused e ≡ Refused NoPlan → HoldsNone f ts) → Fair f ts (refused e ts)
   refused_fair e a h = record { keeps = nothing_sound f ts a; none = h }
 
   stepped_fair : (o : Outcome) → check f ts ≡ Accepted → Sound f ts o → Fair f ts (stepped ts o)
-  stepped_fair (Outcome.NoPlan why) a h = refused_fair (NoPlan why) a (λ w e. h)
+  stepped_fair Outcome.NoPlan a h = refused_fair NoPlan a (λ e. h)
   stepped_fair (Outcome.Plan us) a h = record { keeps = h; none = not_done 0 }
 
   settled_fair : (s : Settled) → check f ts ≡ Accepted → SettledSound f ts s → Fair f ts (settled ts s)
-  settled_fair (Settled.Refused why) a h = refused_fair (NoPlan why) a (λ w e. h)
+  settled_fair Settled.Refused a h = refused_fair NoPlan a (λ e. h)
   settled_fair (Settled.After n us) a h = record { keeps = h; none = not_done n }
   settled_fair (Settled.Unsettled us) a h = record { keeps = h; none = not_done _ }
 
@@ -74,7 +73,7 @@ module _ (f : Frame) (ts : List Task) where
   call_fair c a =
       by_cases (placed_in (resource_count f) c)
       (λ p. subst (Fair f ts) (sym (call_answered c f ts a p)) (answered_fair c a p))
-      (λ p. subst (Fair f ts) (sym (call_unplaced c f ts a p)) (refused_fair NoSuchResource a (λ w e. let q : ◌≡◌ {A = ℕ} 0 1 = cc in absurd (omega arith))))
+      (λ p. subst (Fair f ts) (sym (call_unplaced c f ts a p)) (refused_fair NoSuchResource a (λ e. let q : ◌≡◌ {A = ℕ} 0 1 = cc in absurd (omega arith))))
 
   pub call_keeps : (c : Call) (n : ℕ) (us : List Task) → check f ts ≡ Accepted → call_of c f ts ≡ done n us → Keeps f ts us
   call_keeps c n us a e = subst (Keeps f ts) (ap (λ (x : Result). x.tasks) e) (call_fair c a).keeps
@@ -84,11 +83,11 @@ abbrev pub Stays : List Task → Result → Type 0
 Stays ts x = ((told_answer x.answer).number ≡ 0 → ⊥) → x.tasks ≡ ts
 
 stepped_stays : (ts : List Task) (o : Outcome) → Stays ts (stepped ts o)
-stepped_stays ts (Outcome.NoPlan why) h = refl
+stepped_stays ts Outcome.NoPlan h = refl
 stepped_stays ts (Outcome.Plan us) h = absurd (h refl)
 
 settled_stays : (ts : List Task) (s : Settled) → Stays ts (settled ts s)
-settled_stays ts (Settled.Refused why) h = refl
+settled_stays ts Settled.Refused h = refl
 settled_stays ts (Settled.After n us) h = absurd (h refl)
 settled_stays ts (Settled.Unsettled us) h = absurd (h refl)
 

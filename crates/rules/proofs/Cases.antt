@@ -4,7 +4,7 @@ use mathlib.Core.List.{List, map}
 use Rattle.integers.specs.Tests.{filter, all, any}
 use Rattle.integers.specs.Sums.{sum_of}
 use Rattle.integers.specs.Least.{least_of, greatest_of}
-use Rattle.integers.specs.Hull.{within, same_range, fits, width, up_from, count_of, values, last, hull, first_of, left}
+use Rattle.integers.specs.Hull.{within, same_range, fits, width, up_from, count_of, values, last, hull, left}
 use Rattle.plan.specs.Days.{cut_below, cut_above, cut_to}
 use Rattle.plan.specs.Powers.{negated_powers}
 use Rattle.plan.specs.Tasks.{no_resource}
@@ -19,7 +19,6 @@ use Rattle.rules.specs.Calls.{Result, repeats, limits, band_ends, band_fits, ban
 use Rattle.rules.specs.BandCases.{band_cases, need_frame, need_before, need_after}
 use Rattle.rules.specs.HeldCases.{held_cases, held_frame, held_before, held_after, short_frame, short_tasks}
 use Rattle.rules.specs.PassCases.{pass_cases}
-use Rattle.rules.specs.ReasonCases.{reason_cases}
 use Rattle.rules.specs.Cases.{Case, page_cases, own_cases, case9_calls, case9_frame, case9_before, case9_after}
 
 abbrev answers : List Case → List Result
@@ -28,14 +27,12 @@ answers cases = map (λ k. call_of k.call k.frame k.tasks) cases
 abbrev printed : List Case → List Result
 printed cases = map (λ k. k.result) cases
 
--- the page's cases; more, each worked out by hand; those with bands, with held resources; case 9; how many passes at most, and within so many; and the
--- first reason where there is no plan
+-- the page's cases; more, each worked out by hand; those with bands, with held resources; case 9; and how many passes at most, and within so many
 every_case :
     (answers page_cases ≡ printed page_cases) × (answers own_cases ≡ printed own_cases) × (answers band_cases ≡ printed band_cases)
     × (answers held_cases ≡ printed held_cases) × (answers case9_calls ≡ printed case9_calls) × (answers pass_cases ≡ printed pass_cases)
-    × (answers reason_cases ≡ printed reason_cases)
-unfolding call_of check tasks_fit set_fits ranges_fit bands_fit bands_after band_fits band_ends limits repeats settle rooms room settle_within same_tasks same_task same_ranges pass steps resource_step sense_step negated at_least_step listed_days least_of greatest_of narrowed kept_set needed_set keeps_height keeps_end keeps_duration keeps_origin shut barred needed shortfall counts begun unended others total hope sure running possible balance balanced unless_empty cuts each limit_on limit_from places places_from no_resource size without only has negated_powers cut_to cut_above cut_below left first_of hull last values count_of up_from fits width same_range within sum_of any all filter
-every_case = (refl, refl, refl, refl, refl, refl, refl)
+unfolding call_of check tasks_fit set_fits ranges_fit bands_fit bands_after band_fits band_ends limits repeats settle rooms room settle_within same_tasks same_task same_ranges pass steps resource_step sense_step negated at_least_step listed_days least_of greatest_of narrowed kept_set needed_set keeps_height keeps_end keeps_duration keeps_origin shut barred needed shortfall counts begun unended others total hope sure running possible balance balanced unless_empty cuts each limit_on limit_from places places_from no_resource size without only has negated_powers cut_to cut_above cut_below left hull last values count_of up_from fits width same_range within sum_of any all filter
+every_case = (refl, refl, refl, refl, refl, refl)
 
 pub page_cases_lem : answers page_cases ≡ printed page_cases
 page_cases_lem = every_case.0
@@ -54,9 +51,6 @@ case9_calls_lem = every_case.4
 
 pub pass_cases_lem : answers pass_cases ≡ printed pass_cases
 pass_cases_lem = every_case.5
-
-pub reason_cases_lem : answers reason_cases ≡ printed reason_cases
-reason_cases_lem = every_case.6
 
 -- ---- allowed plans counted by plain listing, before and after
 every_count :

@@ -1,22 +1,20 @@
 -- The listed days are all that count: on any other day no task is possible, so listing only those is no choice of ours.
-use mathlib.Core.Path.{◌≡◌, refl, ◌∙◌}
+use mathlib.Core.Path.{◌≡◌, ◌∙◌}
 use Prim.Native.Nat.{ℕ}
-use mathlib.Core.List.{List, [], ◌∷◌}
+use mathlib.Core.List.{List, ◌∷◌}
 use mathlib.Core.Bool.{Bool, true, false}
 use lib.IntN.{ℤ}
 use lib.Signed.{le_z, lt_z, ◌≤ℤ◌, ◌<ℤ◌}
 use Rattle.integers.specs.Least.{least_of, greatest_of}
-use Rattle.integers.specs.Whole.{eq_z}
-use Rattle.integers.specs.Tests.{all, any}
+use Rattle.integers.specs.Tests.{all}
 use Rattle.integers.specs.Lists.{In}
 use Rattle.integers.specs.Lists.In.{head, tail}
-use Rattle.integers.specs.Hull.{range, first_of}
+use Rattle.integers.specs.Hull.{range}
 use Rattle.integers.proofs.Z.{z, le_z_in, lt_z_in}
-use Rattle.integers.proofs.Tests.{clash, by_cases, or_first, or_second}
+use Rattle.integers.proofs.Tests.{by_cases, or_first, or_second}
 use Rattle.integers.proofs.Lists.{in_any}
 use Rattle.integers.proofs.Least.{least_at, greatest_at}
 use Rattle.integers.proofs.Hull.{values_out}
-use Rattle.integers.proofs.Firsts.{first_is, listed_within}
 use Rattle.plan.specs.declared.Task.{Task}
 use Rattle.rules.specs.Step.{possible, first_day, last_end, listed_days}
 use Rattle.rules.proofs.TaskDay.{possible_is}
@@ -49,11 +47,3 @@ module _ (r : ℕ) (q : ℤ → Bool) where
   pub every_day : (t : Task) (ts : List Task) → In t ts → ((i : ℤ) → possible r i t ≡ false → q i ≡ true) → all q (listed_days ts) ≡ true → (i : ℤ) → q i ≡ true
   every_day t ts k f h i =
       by_cases (possible r i t) (λ e. let p = possible_is r i t e in listed t ts k h i p.late p.early) (f i)
-
--- ---- the first listed day of which a test holds
-pub first_listed : (p : ℤ → Bool) (ts : List Task) (d : ℤ) → any (eq_z d) (listed_days ts) ≡ true → p d ≡ true → ((i : ℤ) → i <ℤ d → p i ≡ false) → first_of p (listed_days ts) ≡ d
-unfolding listed_days any
-first_listed p [] d h e f = clash false h refl
-first_listed p (u ∷ ts) d h e f =
-    let s = range (least_of first_day (first_day u) ts) (greatest_of last_end (last_end u) ts) in
-    first_is p s d (listed_within s d h) e f

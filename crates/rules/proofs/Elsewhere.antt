@@ -12,7 +12,6 @@ use Rattle.integers.specs.Sums.{sum_of}
 use Rattle.integers.specs.Hull.{Range, hull, values, left}
 use Rattle.integers.proofs.Tests.{clash, if-case, same_test, not_out, not_any, all_in, any_none, filter_same}
 use Rattle.plan.specs.declared.Task.{Task}
-use Rattle.plan.specs.declared.Reason.{Reason}
 use Rattle.plan.specs.declared.Narrowed.{Narrowed}
 use Rattle.plan.specs.declared.Narrowed.TheVariants.{Kept, RanOut}
 use Rattle.plan.specs.Days.{days_of}
@@ -260,7 +259,7 @@ module _ (r : ℕ) (limit : Floor) (ts us : List Task) (same_total : (i : ℤ) �
 -- ---- a step that changes nothing keeps every task, and the other way round
 and_then_still : (t : Task) (ts : List Task) (n : Narrowed) (o : Outcome) → and_then n o ≡ Plan (t ∷ ts) → (n ≡ Kept t) × (o ≡ Plan ts)
 and_then_still t ts (RanOut v) o e = let q : ◌≡◌ {A = ℕ} 0 1 = cc (e) in absurd (omega arith)
-and_then_still t ts (Kept u) (NoPlan why) e = let q : ◌≡◌ {A = ℕ} 0 1 = cc (e) in absurd (omega arith)
+and_then_still t ts (Kept u) NoPlan e = let q : ◌≡◌ {A = ℕ} 0 1 = cc (e) in absurd (omega arith)
 and_then_still t ts (Kept u) (Plan us) e =
     let a : u ≡ t = cc (e) in
     let b : us ≡ ts = cc (e) in
@@ -290,9 +289,9 @@ shortfall_beside : (r : ℕ) (limit : Floor) {ts us : List Task} → Beside r ts
 unfolding shortfall
 shortfall_beside r limit b i = rw (counts_beside r limit b i, total_beside r b i)
 
-pub if_plan : (why : Reason) (b : Bool) (o : Outcome) (ts : List Task) → if b (NoPlan why) o ≡ Plan ts → (b ≡ false) × (o ≡ Plan ts)
-if_plan why true o ts e = let q : ◌≡◌ {A = ℕ} 0 1 = cc (e) in absurd (omega arith)
-if_plan why false o ts e = (refl, e)
+pub if_plan : (b : Bool) (o : Outcome) (ts : List Task) → if b NoPlan o ≡ Plan ts → (b ≡ false) × (o ≡ Plan ts)
+if_plan true o ts e = let q : ◌≡◌ {A = ℕ} 0 1 = cc (e) in absurd (omega arith)
+if_plan false o ts e = (refl, e)
 
 -- what a step leaves is not empty
 step_lives : (r : ℕ) (limit : Floor) (ts : List Task) → at_least_step r limit ts ≡ Plan ts → Lives ts
@@ -303,7 +302,7 @@ step_lives r limit ts e =
 pub step_elsewhere : (r : ℕ) (limit : Floor) (ts us : List Task) → Beside r ts us → at_least_step r limit ts ≡ Plan ts → at_least_step r limit us ≡ Plan us
 unfolding at_least_step
 step_elsewhere r limit ts us b e =
-    let parts = if_plan _ (any (shortfall r limit ts) (listed_days ts)) (each (narrowed r limit ts (listed_days ts)) ts) ts e in
+    let parts = if_plan (any (shortfall r limit ts) (listed_days ts)) (each (narrowed r limit ts (listed_days ts)) ts) ts e in
     let lives = step_lives r limit ts e in
     let none : any (shortfall r limit us) (listed_days us) ≡ false =
     any_none (shortfall r limit us) (listed_days us) (λ i s. clash (shortfall r limit ts i) (shortfall_beside r limit b i ∙ s) (no_shortfall_ever r limit ts lives parts.0 i)) in

@@ -7,7 +7,6 @@ use mathlib.Core.Bool.{true, false}
 use mathlib.Core.List.{List}
 use Rattle.integers.proofs.Tests.{by_cases, if-case}
 use Rattle.plan.specs.declared.Task.{Task}
-use Rattle.plan.specs.declared.Reason.{Reason}
 use Rattle.rules.specs.Frame.{Frame}
 use Rattle.rules.specs.Balance.{Outcome}
 use Rattle.rules.specs.Balance.Outcome.{NoPlan, Plan}
@@ -24,17 +23,14 @@ use Rattle.rules.proofs.Rooms.{keeps_less, same_tasks_is}
 pub same_plan_lem : {vs ws : List Task} → Plan vs ≡ Plan ws → vs ≡ ws
 same_plan_lem e = cc
 
-pub same_reason : {why other : Reason} → NoPlan why ≡ NoPlan other → why ≡ other
-same_reason e = cc
-
 module _ (f : Frame) where
   -- settled after so many passes in a row, or refused by one of them, within b
   abbrev pub Ended : ℕ → List Task → Settled → Type 0
-  Ended b ts (Refused why) = (k : ℕ) × (k ≤ b) × (passes k f ts ≡ NoPlan why)
+  Ended b ts Refused = (k : ℕ) × (k ≤ b) × (passes k f ts ≡ NoPlan)
   Ended b ts (After k us) = (k ≤ b) × (passes k f ts ≡ Plan us)
   Ended b ts (Unsettled us) = ⊥
 
-  first_fails : {why : Reason} → (ts : List Task) → pass f ts ≡ NoPlan why → passes 1 f ts ≡ NoPlan why
+  first_fails : (ts : List Task) → pass f ts ≡ NoPlan → passes 1 f ts ≡ NoPlan
   unfolding passes
   first_fails ts e = ap (λ (o : Outcome). then o (passes 0 f)) e
 
@@ -47,7 +43,7 @@ module _ (f : Frame) where
   one_pass_lem ts us e = ap (λ (o : Outcome). then o (passes 0 f)) e
 
   more_ended : (a b : ℕ) (ts us : List Task) (s : Settled) → pass f ts ≡ Plan us → a < b → Ended a us s → Ended b ts (one_pass_more s)
-  more_ended a b ts us (Refused why) e l h =
+  more_ended a b ts us Refused e l h =
       let k = h.0 in
       let j = h.1 in
       (suc k, omega arith, first_leaves ts us k e ∙ h.2)
@@ -63,7 +59,7 @@ module _ (f : Frame) where
   ends_within (suc n) ts a h = go (pass f ts) refl (pass_sound f ts a) (ends_within n)
     where
       go : (o : Outcome) → pass f ts ≡ o → Sound f ts o → ((us : List Task) → check f us ≡ Accepted → rooms us < n → Ended (most_passes us) us (settle_within n f us)) → Ended (most_passes ts) ts (unless_same (settle_within n f) ts o)
-      go (NoPlan why) e g k = (1, omega arith, first_fails ts e)
+      go NoPlan e g k = (1, omega arith, first_fails ts e)
       go (Plan us) e g k =
           if-case (Ended (most_passes ts) ts) (same_tasks ts us) (After 1 us) (one_pass_more (settle_within n f us))
           (λ q. (omega arith, one_pass_lem ts us e))
@@ -78,7 +74,7 @@ module _ (f : Frame) where
 -- ---- settling within one pass more is a pass, and settling within so many what it left
 module _ (f : Frame) (n : ℕ) (ts : List Task) where
   -- the pass finds no plan
-  pub within_refused : {why : Reason} → pass f ts ≡ NoPlan why → settle_within (suc n) f ts ≡ Refused why
+  pub within_refused : pass f ts ≡ NoPlan → settle_within (suc n) f ts ≡ Refused
   unfolding settle_within
   within_refused e = rw e
 
@@ -103,7 +99,7 @@ module _ (f : Frame) where
   same_bound (suc n) (suc m) ts a h l = go (pass f ts) (pass_sound f ts a) (same_bound n m)
     where
       go : (o : Outcome) → Sound f ts o → ((us : List Task) → check f us ≡ Accepted → rooms us < n → rooms us < m → settle_within n f us ≡ settle_within m f us) → unless_same (settle_within n f) ts o ≡ unless_same (settle_within m f) ts o
-      go (NoPlan why) k g = refl
+      go NoPlan k g = refl
       go (Plan us) k g =
           by_cases (same_tasks ts us) (λ e. rw e)
           (λ e. let less = keeps_less f ts us a k e in rw (e, g us k.accepted (omega arith) (omega arith)))
@@ -114,7 +110,7 @@ module _ (f : Frame) where
     unfolding settle
     within_most n l = same_bound n (suc (rooms ts)) ts a (omega arith) (omega arith)
 
-    pub settle_refused : {why : Reason} → pass f ts ≡ NoPlan why → settle f ts ≡ Refused why
+    pub settle_refused : pass f ts ≡ NoPlan → settle f ts ≡ Refused
     unfolding settle
     settle_refused e = within_refused f (rooms ts) ts e
 
@@ -132,7 +128,7 @@ module _ (f : Frame) where
 -- ---- and stops at the first pass that changes nothing
 module _ (f : Frame) where
   abbrev Stopped : List Task → Settled → Type 0
-  Stopped ts (Refused why) = Unit {0}
+  Stopped ts Refused = Unit {0}
   Stopped ts (After k us) = Stops f ts k us
   Stopped ts (Unsettled us) = Unit {0}
 
@@ -155,7 +151,7 @@ module _ (f : Frame) where
       before (suc j) l vs xs a b = h.earlier j (omega arith) vs xs (sym (first_leaves f ts us j e) ∙ a) b
 
   stopped_more : (ts us : List Task) → pass f ts ≡ Plan us → same_tasks ts us ≡ false → (s : Settled) → Stopped us s → Stopped ts (one_pass_more s)
-  stopped_more ts us e q (Refused why) h = tt
+  stopped_more ts us e q Refused h = tt
   stopped_more ts us e q (After k vs) h = stops_more ts us e q k vs h
   stopped_more ts us e q (Unsettled vs) h = tt
 
@@ -181,7 +177,7 @@ module _ (f : Frame) where
   stopped_within (suc n) ts = go (pass f ts) refl (stopped_within n)
     where
       go : (o : Outcome) → pass f ts ≡ o → ((us : List Task) → Stopped us (settle_within n f us)) → Stopped ts (unless_same (settle_within n f) ts o)
-      go (NoPlan why) e k = tt
+      go NoPlan e k = tt
       go (Plan us) e k =
           if-case (Stopped ts) (same_tasks ts us) (After 1 us) (one_pass_more (settle_within n f us))
           (λ q. stopped_once ts us e q) (λ q. stopped_more ts us e q (settle_within n f us) (k us))

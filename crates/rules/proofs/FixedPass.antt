@@ -19,12 +19,11 @@ use Rattle.plan.specs.Sets.{has, size}
 use Rattle.plan.proofs.Sets.{eqb_true, has_alone, alone_only, has_le, size_same, size_some, some_place}
 use Rattle.rules.specs.Frame.{Frame, places, floor_at}
 use Rattle.rules.specs.Allowed.{Choice, inside, inside_all, joined, holds, allowed}
-use Rattle.rules.specs.Balance.{Outcome, balance}
+use Rattle.rules.specs.Balance.{Outcome}
 use Rattle.rules.specs.Balance.Outcome.{NoPlan, Plan}
 use Rattle.rules.specs.Step.{resource_step}
 use Rattle.rules.specs.Settle.{then, steps, pass}
-use Rattle.rules.specs.Fixed.{fixed, one_value, one_resource, Found, plan_in}
-use Rattle.rules.specs.Fixed.Found.{None, Some}
+use Rattle.rules.specs.Fixed.{fixed, one_value, one_resource}
 use Rattle.rules.specs.Calls.{check}
 use Rattle.plan.specs.declared.Checked.TheVariants.{Accepted}
 use Rattle.rules.proofs.Inside.{Inside, inside_is, inside_in}
@@ -34,29 +33,18 @@ use Rattle.integers.specs.Lists.Each.{nothing, also}
 use Rattle.rules.proofs.Checks.{check_live, check_wide}
 use Rattle.rules.proofs.FixedSteps.{sense_step_fixed, balance_fixed}
 
--- ---- a step on what the one before left
-abbrev then_found : Found → (List Task → Found) → Found
-then_found None k = None
-then_found (Some ts) k = k ts
-
-then_found_lem : (o : Outcome) (k : List Task → Outcome) → plan_in (then o k) ≡ then_found (plan_in o) (λ us. plan_in (k us))
-then_found_lem (NoPlan why) k = refl
-then_found_lem (Plan us) k = refl
-
 -- ---- the choice as a list of choices
-steps_fixed : (f : Frame) (cs : List Choice) → all joined cs ≡ true → (rs : List ℕ) → plan_in (steps f rs (map fixed cs)) ≡ if (all (λ r. holds f.sense r (floor_at f r) cs) rs) (Some (map fixed cs)) None
+steps_fixed : (f : Frame) (cs : List Choice) → all joined cs ≡ true → (rs : List ℕ) → steps f rs (map fixed cs) ≡ if (all (λ r. holds f.sense r (floor_at f r) cs) rs) (Plan (map fixed cs)) NoPlan
 unfolding steps all resource_step
 steps_fixed f cs j [] = refl
 steps_fixed f cs j (r ∷ rs) =
-    then_found_lem (resource_step f r (map fixed cs)) (steps f rs)
-    ∙ ap (λ (o : Found). then_found o (λ us. plan_in (steps f rs us))) (sense_step_fixed f.sense r (floor_at f r) cs j)
+    ap (λ (o : Outcome). then o (steps f rs)) (sense_step_fixed f.sense r (floor_at f r) cs j)
     ∙ by_cases (holds f.sense r (floor_at f r) cs) (λ h. rw h (steps_fixed f cs j rs)) (λ h. rw h)
 
-pub pass_fixed : (f : Frame) (cs : List Choice) → plan_in (pass f (map fixed cs)) ≡ if (allowed f cs) (Some (map fixed cs)) None
+pub pass_fixed : (f : Frame) (cs : List Choice) → pass f (map fixed cs) ≡ if (allowed f cs) (Plan (map fixed cs)) NoPlan
 unfolding pass allowed
 pass_fixed f cs =
-    then_found_lem (balance (map fixed cs)) (steps f (places f))
-    ∙ ap (λ (o : Found). then_found o (λ us. plan_in (steps f (places f) us))) (balance_fixed cs)
+    ap (λ (o : Outcome). then o (steps f (places f))) (balance_fixed cs)
     ∙ by_cases (all joined cs) (λ j. rw j (steps_fixed f cs j (places f))) (λ j. rw j)
 
 -- ---- the choice as a list of tasks with one value in each range and one resource in each set
@@ -141,6 +129,6 @@ module _ (f : Frame) (ts : List Task) (a : check f ts ≡ Accepted) where
   pub some_choice : (cs : List Choice) × (inside_all ts cs ≡ true)
   some_choice = lowests (check_live f ts a)
 
-  pub pass_one_choice : all one_value ts ≡ true → all one_resource ts ≡ true → (cs : List Choice) → inside_all ts cs ≡ true → plan_in (pass f ts) ≡ if (allowed f cs) (Some ts) None
+  pub pass_one_choice : all one_value ts ≡ true → all one_resource ts ≡ true → (cs : List Choice) → inside_all ts cs ≡ true → pass f ts ≡ if (allowed f cs) (Plan ts) NoPlan
   pass_one_choice v w cs h =
-      subst (λ us. plan_in (pass f us) ≡ if (allowed f cs) (Some us) None) (one_tasks ts cs (check_wide f ts a) v w h) (pass_fixed f cs)
+      subst (λ us. pass f us ≡ if (allowed f cs) (Plan us) NoPlan) (one_tasks ts cs (check_wide f ts a) v w h) (pass_fixed f cs)

@@ -1,7 +1,6 @@
 -- One fixed choice: balance and each resource step leave it as it is exactly where it keeps their rules, and find no plan elsewhere.
 use mathlib.Core.Path.{◌≡◌, refl, sym, ap, ap₂, ◌∙◌, subst, subst₂}
 use Prim.Native.Nat.{ℕ, ◌^◌}
-use native.Mathlib.Omega.{arith}
 use mathlib.Core.List.{List, [], ◌∷◌, map}
 use mathlib.Core.Bool.{Bool, true, false, not}
 use lib.IntN.{ℤ, pos, ◌+ℤ◌, ◌-ℤ◌}
@@ -15,7 +14,6 @@ use Rattle.integers.proofs.Z.{z, +z, -z, maxz, minz, le_z_in, eq_z_in, negneg}
 use Rattle.integers.proofs.Tests.{clash, by_cases, if-case, same_test, and_first, and_second, not_out, not_any}
 use Rattle.integers.specs.Ends.{Within}
 use Rattle.plan.specs.declared.Task.{Task}
-use Rattle.plan.specs.declared.Reason.{Reason}
 use Rattle.plan.specs.declared.Narrowed.{Narrowed}
 use Rattle.plan.specs.declared.Narrowed.TheVariants.{Kept, RanOut}
 use Rattle.plan.specs.declared.Value.TheVariants.{Origin}
@@ -30,8 +28,7 @@ use Rattle.rules.specs.Allowed.{Choice, covers, adds, level, joined, meets, hold
 use Rattle.rules.specs.Balance.{Outcome, and_then, each, cuts, unless_empty, balanced, balance}
 use Rattle.rules.specs.Balance.Outcome.{NoPlan, Plan}
 use Rattle.rules.specs.Step.{possible, running, sure, begun, unended, hope, total, counts, shortfall, listed_days, at_least_step, negated, negated_plan, negated_floor, sense_step}
-use Rattle.rules.specs.Fixed.{fixed, Found, plan_in}
-use Rattle.rules.specs.Fixed.Found.{None, Some}
+use Rattle.rules.specs.Fixed.{fixed}
 use Rattle.rules.proofs.Counted.{counted_listed}
 use Rattle.rules.proofs.Inside.{Inside, Fit, joined_is}
 use Rattle.rules.proofs.Inside.Fit.{none, more}
@@ -151,30 +148,6 @@ module _ (r : ℕ) (i : ℤ) where
         any_fixed (sure r i) (covers r i) sure_fixed cs,
       )
 
--- ---- a plan that is found, or none
-some_none : {ts : List Task} → Some ts ≡ None → ⊥
-some_none e = let q : ◌≡◌ {A = ℕ} 0 1 = cc in omega arith
-
-pub plan_is : (o : Outcome) (ts : List Task) → plan_in o ≡ Some ts → o ≡ Plan ts
-plan_is (NoPlan why) ts e = absurd (some_none (sym e))
-plan_is (Plan us) ts e = let q : us ≡ ts = cc in ap Plan q
-
-pub record Refuses (o : Outcome) : Type 0 where
-  pub why : Reason
-  pub is : o ≡ NoPlan why
-
-pub none_is : (o : Outcome) → plan_in o ≡ None → Refuses o
-none_is (NoPlan why) e = record { why = why; is = refl }
-none_is (Plan ts) e = absurd (some_none e)
-
-abbrev negated_found : Found → Found
-negated_found None = None
-negated_found (Some ts) = Some (map negated ts)
-
-plan_negated : (o : Outcome) → plan_in (negated_plan o) ≡ negated_found (plan_in o)
-plan_negated (NoPlan why) = refl
-plan_negated (Plan ts) = refl
-
 -- ---- the resource step
 module _ (r : ℕ) (limit : Floor) (cs : List Choice) where
   no_shortfall_holds : any (shortfall r limit (map fixed cs)) (listed_days (map fixed cs)) ≡ false → Holds AtLeast r limit cs
@@ -190,15 +163,14 @@ module _ (r : ℕ) (limit : Floor) (cs : List Choice) where
       let f : lt_z (level r i cs) (limit.on i) ≡ false = subst (λ b. and b (lt_z (level r i cs) (limit.on i)) ≡ false) a e in
       le_z_in (limit.on i) (level r i cs) (omega z)
 
-  step_fixed : all joined cs ≡ true → plan_in (at_least_step r limit (map fixed cs)) ≡ if (holds AtLeast r limit cs) (Some (map fixed cs)) None
+  step_fixed : all joined cs ≡ true → at_least_step r limit (map fixed cs) ≡ if (holds AtLeast r limit cs) (Plan (map fixed cs)) NoPlan
   unfolding at_least_step
   step_fixed j =
       by_cases (holds AtLeast r limit cs)
       (λ h.
-      ap plan_in
-      (stays_fixed cs (at_least_step r limit (map fixed cs)) (step_shrunk r limit (map fixed cs))
-      (step_stays r limit (map fixed cs) cs (fit_fixed cs j) (holds_is AtLeast r limit cs h)))
-      ∙ sym (ap (λ b. if b (Some (map fixed cs)) None) h))
+      stays_fixed cs (at_least_step r limit (map fixed cs)) (step_shrunk r limit (map fixed cs))
+      (step_stays r limit (map fixed cs) cs (fit_fixed cs j) (holds_is AtLeast r limit cs h))
+      ∙ sym (ap (λ b. if b (Plan (map fixed cs)) NoPlan) h))
       (λ h.
       by_cases (any (shortfall r limit (map fixed cs)) (listed_days (map fixed cs))) (λ s. rw (h, s))
       (λ s. clash (holds AtLeast r limit cs) (holds_in AtLeast r limit cs (no_shortfall_holds s)) h))
@@ -227,22 +199,20 @@ holds_negated r limit cs =
     (λ h. holds_in AtMost r limit cs (holds_at_most r limit cs (holds_is AtLeast r low (map negated_choice cs) h)))
     (λ h. holds_in AtLeast r low (map negated_choice cs) (holds_at_least r limit cs (holds_is AtMost r limit cs h)))
 
-pub sense_step_fixed : (sense : Sense) (r : ℕ) (limit : Floor) (cs : List Choice) → all joined cs ≡ true → plan_in (sense_step sense r limit (map fixed cs)) ≡ if (holds sense r limit cs) (Some (map fixed cs)) None
+pub sense_step_fixed : (sense : Sense) (r : ℕ) (limit : Floor) (cs : List Choice) → all joined cs ≡ true → sense_step sense r limit (map fixed cs) ≡ if (holds sense r limit cs) (Plan (map fixed cs)) NoPlan
 unfolding sense_step
 sense_step_fixed AtLeast r limit cs j = step_fixed r limit cs j
 sense_step_fixed AtMost r limit cs j =
-    ap (λ (ts : List Task). plan_in (negated_plan (at_least_step r (negated_floor limit) ts))) (negated_fixed cs)
-    ∙ plan_negated (at_least_step r (negated_floor limit) (map fixed (map negated_choice cs)))
-    ∙ ap negated_found (step_fixed r (negated_floor limit) (map negated_choice cs) (joined_negated cs ∙ j))
+    ap (λ (ts : List Task). negated_plan (at_least_step r (negated_floor limit) ts)) (negated_fixed cs)
+    ∙ ap negated_plan (step_fixed r (negated_floor limit) (map negated_choice cs) (joined_negated cs ∙ j))
     ∙ by_cases (holds AtMost r limit cs)
-    (λ h. rw (holds_negated r limit cs, h) (ap Some (negated_fixed (map negated_choice cs) ∙ ap (map fixed) (choices_back cs))))
+    (λ h. rw (holds_negated r limit cs, h) (ap Plan (negated_fixed (map negated_choice cs) ∙ ap (map fixed) (choices_back cs))))
     (λ h. rw (holds_negated r limit cs, h))
 
 -- ---- balance
-no_more : (n : Narrowed) (o : Outcome) → plan_in o ≡ None → plan_in (and_then n o) ≡ None
-no_more (RanOut v) o h = refl
-no_more (Kept t) (NoPlan why) h = refl
-no_more (Kept t) (Plan us) h = absurd (some_none h)
+no_more : (n : Narrowed) → and_then n NoPlan ≡ NoPlan
+no_more (RanOut v) = refl
+no_more (Kept t) = refl
 
 balanced_unjoined : (c : Choice) → joined c ≡ false → balanced (fixed c) ≡ RanOut Origin
 unfolding balanced unless_empty cuts cut_to cut_above cut_below joined
@@ -255,21 +225,21 @@ balanced_unjoined c h =
     let same : o +ℤ d ≡ e = omega (z, +z o d, -z e d, maxz o (e -ℤ d), minz o (e -ℤ d)) in
     clash (joined c) (eq_z_in (o +ℤ d) e same) h)
 
-balance_unjoined : (cs : List Choice) → all joined cs ≡ false → plan_in (each balanced (map fixed cs)) ≡ None
+balance_unjoined : (cs : List Choice) → all joined cs ≡ false → each balanced (map fixed cs) ≡ NoPlan
 unfolding each all
 balance_unjoined [] h = clash true refl h
 balance_unjoined (c ∷ cs) h =
     by_cases (joined c)
     (λ j.
     let rest : all joined cs ≡ false = subst (λ b. and b (all joined cs) ≡ false) j h in
-    no_more (balanced (fixed c)) (each balanced (map fixed cs)) (balance_unjoined cs rest))
-    (λ j. ap (λ (n : Narrowed). plan_in (and_then n (each balanced (map fixed cs)))) (balanced_unjoined c j))
+    ap (and_then (balanced (fixed c))) (balance_unjoined cs rest) ∙ no_more (balanced (fixed c)))
+    (λ j. ap (λ (n : Narrowed). and_then n (each balanced (map fixed cs))) (balanced_unjoined c j))
 
-pub balance_fixed : (cs : List Choice) → plan_in (balance (map fixed cs)) ≡ if (all joined cs) (Some (map fixed cs)) None
+pub balance_fixed : (cs : List Choice) → balance (map fixed cs) ≡ if (all joined cs) (Plan (map fixed cs)) NoPlan
 unfolding balance
 balance_fixed cs =
     by_cases (all joined cs)
     (λ j.
-    ap plan_in (stays_fixed cs (balance (map fixed cs)) (balance_shrunk (live_fixed cs)) (balance_stays (map fixed cs) cs (fit_fixed cs j)))
-    ∙ sym (ap (λ b. if b (Some (map fixed cs)) None) j))
+    stays_fixed cs (balance (map fixed cs)) (balance_shrunk (live_fixed cs)) (balance_stays (map fixed cs) cs (fit_fixed cs j))
+    ∙ sym (ap (λ b. if b (Plan (map fixed cs)) NoPlan) j))
     (λ j. rw j (balance_unjoined cs j))

@@ -53,7 +53,7 @@ inside_wider (more_subs {u} {t} {us} {ts} s f) (c ∷ cs) h =
 
 -- ---- what a step, or some in a row, may answer on ts
 abbrev pub Sound : Frame → List Task → Outcome → Type 0
-Sound f ts (NoPlan why) = HoldsNone f ts
+Sound f ts NoPlan = HoldsNone f ts
 Sound f ts (Plan us) = Keeps f ts us
 
 pub keeps_then : {f : Frame} {ts us vs : List Task} → Keeps f ts us → Keeps f us vs → Keeps f ts vs
@@ -71,7 +71,7 @@ nothing_then h g = record { choices = λ cs ok. sym (h.choices cs ok) ∙ g.choi
 module _ (f : Frame) where
   -- a step that shrinks and loses no allowed choice is sound
   sound_by : (ts : List Task) → check f ts ≡ Accepted → (o : Outcome) → Shrunk ts o → ((cs : List Choice) → allowed f cs ≡ true → Fit ts cs → PlanStays cs o) → Sound f ts o
-  sound_by ts a (NoPlan why) h k =
+  sound_by ts a NoPlan h k =
       record {
         choices = λ cs ok. false_in (inside_all ts cs) (lost cs ok);
         none = plans_none f ts lost;
@@ -109,11 +109,11 @@ module _ (f : Frame) where
 
   -- one after another
   pub then_sound : (ts : List Task) (o : Outcome) (k : List Task → Outcome) → Sound f ts o → ((us : List Task) → check f us ≡ Accepted → Sound f us (k us)) → Sound f ts (then o k)
-  then_sound ts (NoPlan why) k h g = h
+  then_sound ts NoPlan k h g = h
   then_sound ts (Plan us) k h g = carry (k us) (g us h.accepted)
     where
       carry : (o : Outcome) → Sound f us o → Sound f ts o
-      carry (NoPlan why) l = nothing_then h l
+      carry NoPlan l = nothing_then h l
       carry (Plan vs) l = keeps_then h l
 
   pub move_sound : (m : Move) (ts : List Task) → check f ts ≡ Accepted → Sound f ts (move f m ts)

@@ -32,12 +32,10 @@ pub mod Ends
 pub mod Within
 pub mod Calls
 pub mod Unlisted
-pub mod Reasons
 pub mod Elsewhere
 pub mod Sizes
 pub mod Once
 pub mod Theorems
-pub mod NeverComes
 pub mod Bounds
 pub mod CallTheorems
 pub mod PassTheorems

@@ -70,13 +70,13 @@ bands_back (b ∷ bs) =
     ap₂ (λ (x : ℤ) (xs : List Band). record { place = b.place; from = b.from; limit = power x } ∷ xs) (negneg b.limit.0) (bands_back bs)
 
 pub plan_back : (o : Outcome) → negated_plan (negated_plan o) ≡ o
-plan_back (NoPlan why) = refl
+plan_back NoPlan = refl
 plan_back (Plan ts) = ap Plan (negateds_back ts)
 
 -- ---- balance does not look at heights
 and_then_negated : (n : Narrowed) (o : Outcome) → and_then (negated_task n) (negated_plan o) ≡ negated_plan (and_then n o)
 and_then_negated (RanOut v) o = refl
-and_then_negated (Kept t) (NoPlan why) = refl
+and_then_negated (Kept t) NoPlan = refl
 and_then_negated (Kept t) (Plan ts) = refl
 
 pub each_negated : (f g : Task → Narrowed) → ((t : Task) → f (negated t) ≡ negated_task (g t)) → (ts : List Task) → each f (map negated ts) ≡ negated_plan (each g ts)
@@ -141,7 +141,7 @@ step_negated f r ts =
 
 -- ---- a pass
 then_negated : (o : Outcome) (k k' : List Task → Outcome) → ((us : List Task) → k (map negated us) ≡ negated_plan (k' us)) → then (negated_plan o) k ≡ negated_plan (then o k')
-then_negated (NoPlan why) k k' h = refl
+then_negated NoPlan k k' h = refl
 then_negated (Plan us) k k' h = h us
 
 steps_negated : (f : Frame) (rs : List ℕ) (ts : List Task) → steps (negated_frame f) rs (map negated ts) ≡ negated_plan (steps f rs ts)
@@ -191,12 +191,12 @@ same_tasks_negated (t ∷ ts) [] = refl
 same_tasks_negated (t ∷ ts) (u ∷ us) = ap₂ and (same_task_negated t u) (same_tasks_negated ts us)
 
 more_negated : (s : Settled) → one_pass_more (negated_settled s) ≡ negated_settled (one_pass_more s)
-more_negated (Refused why) = refl
+more_negated Refused = refl
 more_negated (After n ts) = refl
 more_negated (Unsettled ts) = refl
 
 unless_same_negated : (k k' : List Task → Settled) → ((us : List Task) → k (map negated us) ≡ negated_settled (k' us)) → (ts : List Task) (o : Outcome) → unless_same k (map negated ts) (negated_plan o) ≡ negated_settled (unless_same k' ts o)
-unless_same_negated k k' h ts (NoPlan why) = refl
+unless_same_negated k k' h ts NoPlan = refl
 unless_same_negated k k' h ts (Plan us) =
     by_cases (same_tasks ts us) (λ e. rw (same_tasks_negated ts us, e))
     (λ e. rw (same_tasks_negated ts us, e) (ap one_pass_more (h us) ∙ more_negated (k' us)))
@@ -307,11 +307,11 @@ unless_refused_negated Checked.Accepted ts x x' h = h
 unless_refused_negated (Checked.Refused e) ts x x' h = refl
 
 stepped_negated : (ts : List Task) (o : Outcome) → stepped (map negated ts) (negated_plan o) ≡ negated_result (stepped ts o)
-stepped_negated ts (NoPlan why) = refl
+stepped_negated ts NoPlan = refl
 stepped_negated ts (Plan us) = refl
 
 settled_negated : (ts : List Task) (s : Settled) → settled (map negated ts) (negated_settled s) ≡ negated_result (settled ts s)
-settled_negated ts (Refused why) = refl
+settled_negated ts Refused = refl
 settled_negated ts (After n us) = refl
 settled_negated ts (Unsettled us) = refl
 

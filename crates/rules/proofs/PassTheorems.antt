@@ -4,18 +4,16 @@ use mathlib.Core.Path.{◌≡◌, refl, sym, ap, ◌∙◌, subst}
 use Prim.Native.Nat.{ℕ, suc, ◌+◌, ◌≤◌, ◌<◌}
 use native.Mathlib.Omega.{arith}
 use mathlib.Core.List.{List, [], ◌∷◌}
-use lib.IntN.{pos, nat_abs}
 use lib.ListN.{get_or}
 use borrow.Author.Tests.{ne_eqb}
 use Rattle.plan.specs.declared.Task.{Task}
-use Rattle.plan.specs.declared.Reason.{Reason}
 use Rattle.plan.specs.declared.Call.{Call}
 use Rattle.plan.specs.declared.Call.TheVariants.{Pass, Settle, Within, MostPasses}
 use Rattle.plan.specs.declared.Answer.TheVariants.{Done}
 use Rattle.plan.specs.declared.Refusal.{Refusal}
 use Rattle.plan.specs.declared.Checked.{Checked}
 use Rattle.plan.specs.declared.Checked.TheVariants.{Accepted}
-use Rattle.plan.specs.Refusals.{number, Told, told, reason_values, told_refusal, told_answer}
+use Rattle.plan.specs.Refusals.{number, place, Told, told, told_answer}
 use Rattle.plan.proofs.Refusals.{number_ends}
 use Rattle.rules.specs.Frame.{Frame}
 use Rattle.rules.specs.Balance.Outcome.{NoPlan, Plan}
@@ -51,30 +49,30 @@ module _ (f : Frame) (ts : List Task) where
           absurd (omega arith)
 
   module _ (ok : check f ts ≡ Accepted) where
-    done_settled : (k : ℕ) (us : List Task) → list_call Settle f ts ≡ list_result (told 0 (pos k ∷ [])) us → settle f ts ≡ After k us
+    done_settled : (k : ℕ) (us : List Task) → list_call Settle f ts ≡ list_result (told 0 (k ∷ [])) us → settle f ts ≡ After k us
     done_settled k us e = by_settle (settle f ts) refl
       where
         by_settle : (s : Settled) → settle f ts ≡ s → settle f ts ≡ After k us
-        by_settle (Refused why) h =
+        by_settle Refused h =
             let g : ◌≡◌ {A = ℕ} 7 0 = ap (λ (r : ListResult). r.answer.number) (sym (settle_none f ts ok h) ∙ e) in
             absurd (omega arith)
         by_settle (After j vs) h =
             let same = sym (settle_done f ts ok j vs h) ∙ e in
-            h ∙ ap (λ (r : ListResult). After (nat_abs (get_or r.answer.values 0 (pos 0))) r.tasks) same
+            h ∙ ap (λ (r : ListResult). After (get_or r.answer.values 0 0) r.tasks) same
         by_settle (Unsettled vs) h = absurd (settle_settles f ts ok vs h)
 
-    none_refused : (list_call Settle f ts).answer.number ≡ 7 → (why : Reason) × (settle f ts ≡ Refused why)
+    none_refused : (list_call Settle f ts).answer.number ≡ 7 → settle f ts ≡ Refused
     none_refused e = by_settle (settle f ts) refl
       where
-        by_settle : (s : Settled) → settle f ts ≡ s → (why : Reason) × (settle f ts ≡ Refused why)
-        by_settle (Refused why) h = (why, h)
+        by_settle : (s : Settled) → settle f ts ≡ s → settle f ts ≡ Refused
+        by_settle Refused h = h
         by_settle (After j vs) h =
             let g : ◌≡◌ {A = ℕ} 0 7 = ap (λ (r : ListResult). r.answer.number) (sym (settle_done f ts ok j vs h)) ∙ e in
             absurd (omega arith)
         by_settle (Unsettled vs) h = absurd (settle_settles f ts ok vs h)
 
     -- the pass that finds no plan, and the one before it
-    fails : {why : Reason} → settle f ts ≡ Refused why → (k : ℕ) × (k < most_passes ts) × (us : List Task) × (passes k f ts ≡ Plan us) × (pass f us ≡ NoPlan why)
+    fails : settle f ts ≡ Refused → (k : ℕ) × (k < most_passes ts) × (us : List Task) × (passes k f ts ≡ Plan us) × (pass f us ≡ NoPlan)
     fails h =
         let b = refusal_bound f ts ok h in
         let l = b.1 in
@@ -85,37 +83,36 @@ module _ (f : Frame) (ts : List Task) where
 -- ---- "How many passes at most", of any lists
 module _ (f : Frame) (ts : List Task) where
   -- the call that asks for it
-  pub most_done : check f ts ≡ Accepted → list_call MostPasses f ts ≡ list_result (told 0 (pos (most_passes ts) ∷ [])) ts
+  pub most_done : check f ts ≡ Accepted → list_call MostPasses f ts ≡ list_result (told 0 (most_passes ts ∷ [])) ts
   unfolding list_call call_of
   most_done ok = rw ok
 
   -- "the reported pass count at most 1 plus all that could be removed"
-  pub count_bound : (k : ℕ) (us : List Task) → list_call Settle f ts ≡ list_result (told 0 (pos k ∷ [])) us → k ≤ most_passes ts
+  pub count_bound : (k : ℕ) (us : List Task) → list_call Settle f ts ≡ list_result (told 0 (k ∷ [])) us → k ≤ most_passes ts
   count_bound k us e =
       let ok = done_accepted f ts Settle (ap (λ (r : ListResult). r.answer.number) e) in
       (settle_bound f ts ok k us (done_settled f ts ok k us e)).0
 
   -- "where settling ends in no plan, the failing pass comes within the same number": the call that makes it is refused, and those before were not
-  pub failing_pass : (list_call Settle f ts).answer.number ≡ 7 → (k : ℕ) × (k < most_passes ts) × (us : List Task) × (passes k f ts ≡ Plan us) × (list_call Pass f us ≡ list_result (list_call Settle f ts).answer us)
+  pub failing_pass : (list_call Settle f ts).answer.number ≡ 7 → (k : ℕ) × (k < most_passes ts) × (us : List Task) × (passes k f ts ≡ Plan us) × (list_call Pass f us ≡ list_result (told 7 (0 ∷ [])) us)
   failing_pass e =
       let ok = none_accepted Settle f ts e in
-      let n = none_refused f ts ok e in
-      let r = fails f ts ok n.1 in
+      let r = fails f ts ok (none_refused f ts ok e) in
       let kept = sequence_keeps f ts ok _ r.2 (sym (passes_are_sequence f ts r.0) ∙ r.3) in
-      (r.0, r.1, r.2, r.3, rw (settle_none f ts ok n.1) (pass_none f r.2 kept.accepted r.4))
+      (r.0, r.1, r.2, r.3, pass_none f r.2 kept.accepted r.4)
 
   -- so settling within the passes before it is not refused, and within one more it is
-  pub failing_within : (list_call Settle f ts).answer.number ≡ 7 → (k : ℕ) × (k < most_passes ts) × ((list_call (Within k) f ts).answer ≡ no_count) × ((list_call (Within (suc k)) f ts).answer ≡ (list_call Settle f ts).answer)
+  pub failing_within : (list_call Settle f ts).answer.number ≡ 7 → (k : ℕ) × (k < most_passes ts) × ((list_call (Within k) f ts).answer ≡ no_count) × ((list_call (Within (suc k)) f ts).answer ≡ told 7 (0 ∷ []))
   unfolding list_call call_of
   failing_within e =
       let ok = none_accepted Settle f ts e in
-      let s = (none_refused f ts ok e).1 in
+      let s = none_refused f ts ok e in
       let r = fails f ts ok s in
       let less = within_left f r.0 ts ok r.2 r.3 (λ j vs g. absurd (refused_after (sym s ∙ g))) in
       let next = within_none f (suc r.0) ts ok (next_pass f r.0 ts r.2 r.3 ∙ r.4) in
-      (r.0, r.1, rw (ok, less), rw (ok, next, s))
+      (r.0, r.1, rw (ok, less), rw (ok, next))
     where
-      refused_after : {why : Reason} {k : ℕ} {us : List Task} → Refused why ≡ After k us → ⊥
+      refused_after : {k : ℕ} {us : List Task} → Refused ≡ After k us → ⊥
       refused_after h = let q : ◌≡◌ {A = ℕ} 0 1 = cc in omega arith
 
 -- ---- settling within so many passes, of any lists
@@ -138,13 +135,13 @@ module _ (f : Frame) (ts : List Task) (most : ℕ) where
   within_bound l = rw (call_within l)
 
   -- with as many as settling counts, or more
-  pub call_counted : (k : ℕ) (us : List Task) → list_call Settle f ts ≡ list_result (told 0 (pos k ∷ [])) us → k ≤ most → call_of (Within most) f ts ≡ call_of Settle f ts
+  pub call_counted : (k : ℕ) (us : List Task) → list_call Settle f ts ≡ list_result (told 0 (k ∷ [])) us → k ≤ most → call_of (Within most) f ts ≡ call_of Settle f ts
   call_counted k us e l =
       by_entry λ ok.
       let s = done_settled f ts ok k us e in
       within_enough f most ts ok k us s l ∙ sym s
 
-  pub within_done : (k : ℕ) (us : List Task) → list_call Settle f ts ≡ list_result (told 0 (pos k ∷ [])) us → k ≤ most → list_call (Within most) f ts ≡ list_call Settle f ts
+  pub within_done : (k : ℕ) (us : List Task) → list_call Settle f ts ≡ list_result (told 0 (k ∷ [])) us → k ≤ most → list_call (Within most) f ts ≡ list_call Settle f ts
   unfolding list_call
   within_done k us e l = rw (call_counted k us e l)
 
@@ -153,7 +150,7 @@ module _ (f : Frame) (ts : List Task) (most : ℕ) where
   call_told h = by_entry (λ ok. by_within ok (settle_within most f ts) refl)
     where
       by_within : (ok : check f ts ≡ Accepted) (s : Settled) → settle_within most f ts ≡ s → settle_within most f ts ≡ settle f ts
-      by_within ok (Refused why) e = e ∙ sym (refused_within f most ts ok e)
+      by_within ok Refused e = e ∙ sym (refused_within f most ts ok e)
       by_within ok (After k us) e = e ∙ sym (settled_within f most ts ok k us e).2
       by_within ok (Unsettled us) e =
           absurd (h (ap (λ (x : Result). x.answer) (call_answered (Within most) f ts ok refl ∙ ap (settled ts) e)))
@@ -163,12 +160,12 @@ module _ (f : Frame) (ts : List Task) (most : ℕ) where
   within_told h = rw (call_told (λ e. h (ap told_answer e)))
 
   -- 7, if one of so many passes finds no plan
-  pub within_fails : {why : Reason} → check f ts ≡ Accepted → passes most f ts ≡ NoPlan why → list_call (Within most) f ts ≡ list_result (told 7 (reason_values why)) ts
+  pub within_fails : check f ts ≡ Accepted → passes most f ts ≡ NoPlan → list_call (Within most) f ts ≡ list_result (told 7 (0 ∷ [])) ts
   unfolding list_call call_of
   within_fails ok e = rw (ok, within_none f most ts ok e)
 
   -- else, if settling counts more, or none, the plan after so many passes, with a count of 0
-  pub within_leaves : check f ts ≡ Accepted → (us : List Task) → passes most f ts ≡ Plan us → ((k : ℕ) (vs : List Task) → list_call Settle f ts ≡ list_result (told 0 (pos k ∷ [])) vs → most < k) → list_call (Within most) f ts ≡ list_result no_count us
+  pub within_leaves : check f ts ≡ Accepted → (us : List Task) → passes most f ts ≡ Plan us → ((k : ℕ) (vs : List Task) → list_call Settle f ts ≡ list_result (told 0 (k ∷ [])) vs → most < k) → list_call (Within most) f ts ≡ list_result no_count us
   within_leaves ok us e m = leaves (within_left f most ts ok us e (λ k vs s. m k vs (settle_done f ts ok k vs s)))
     where
       leaves : settle_within most f ts ≡ Unsettled us → list_call (Within most) f ts ≡ list_result no_count us
@@ -177,15 +174,15 @@ module _ (f : Frame) (ts : List Task) (most : ℕ) where
 -- ---- calling it again and again, each time with what it left
 -- what the calls come to, by what settling within all their passes comes to
 abbrev Comes : ℕ → Settled → ListResult → Type 0
-Comes before (Refused why) r = r.answer ≡ told 7 (reason_values why)
-Comes before (After k us) r = r ≡ list_result (told 0 (pos (before + k) ∷ [])) us
+Comes before Refused r = r.answer ≡ told 7 (0 ∷ [])
+Comes before (After k us) r = r ≡ list_result (told 0 ((before + k) ∷ [])) us
 Comes before (Unsettled us) r = r ≡ list_result no_count us
 
 comes_plus : (before m : ℕ) (s : Settled) (r : ListResult) → Comes (before + m) s r → Comes before (plus_passes m s) r
-comes_plus before m (Refused why) r h = h
+comes_plus before m Refused r h = h
 comes_plus before m (After k us) r h =
     let e : before + m + k ≡ before + (m + k) = omega arith in
-    h ∙ ap (λ (n : ℕ). list_result (told 0 (pos n ∷ [])) us) e
+    h ∙ ap (λ (n : ℕ). list_result (told 0 (n ∷ [])) us) e
 comes_plus before m (Unsettled us) r h = h
 
 module _ (f : Frame) where
@@ -197,7 +194,7 @@ module _ (f : Frame) where
       (go (settle_within m f ts) refl (again_comes mosts (before + m)))
     where
       go : (s : Settled) → settle_within m f ts ≡ s → ((us : List Task) → check f us ≡ Accepted → Comes (before + m) (settle_within (in_all mosts) f us) (settle_again (before + m) mosts f us)) → Comes before (onward m (settle_within (in_all mosts) f) s) (settle_again before (m ∷ mosts) f ts)
-      go (Refused why) e k = rw (within_call f m ts ok (Refused why) e)
+      go Refused e k = rw (within_call f m ts ok Refused e)
       go (After j us) e k =
           let some = (settled_within f m ts ok j us e).0 in
           rw (within_call f m ts ok (After j us) e, ne_eqb j 0 (λ h. omega arith))
@@ -209,7 +206,7 @@ module _ (f : Frame) where
 -- calls of so many passes at most, on any lists, with none made before
 module _ (f : Frame) (ts : List Task) where
   -- lists that the checks refuse are refused by the first of them
-  first_refuses : (e : Refusal) → check f ts ≡ Checked.Refused e → (most : ℕ) (mosts : List ℕ) → settle_again 0 (most ∷ mosts) f ts ≡ list_result (told_refusal e) ts
+  first_refuses : (e : Refusal) → check f ts ≡ Checked.Refused e → (most : ℕ) (mosts : List ℕ) → settle_again 0 (most ∷ mosts) f ts ≡ list_result (told (number e) (place e ∷ [])) ts
   unfolding settle_again
   first_refuses e h most mosts =
       let n = (number_ends e).0 in
@@ -222,7 +219,7 @@ module _ (f : Frame) (ts : List Task) where
     abbrev Settles : Type 0
     Settles = (again.answer ≡ (list_call Settle f ts).answer) × (again.answer.number ≡ 0 → again.tasks ≡ (list_call Settle f ts).tasks)
 
-    refused_settles : (e : Refusal) → check f ts ≡ Checked.Refused e → again ≡ list_result (told_refusal e) ts → Settles
+    refused_settles : (e : Refusal) → check f ts ≡ Checked.Refused e → again ≡ list_result (told (number e) (place e ∷ [])) ts → Settles
     refused_settles e h g =
         let n = (number_ends e).0 in
         let m = ap (λ (r : ListResult). r.answer.number) g in
@@ -232,13 +229,13 @@ module _ (f : Frame) (ts : List Task) where
     accepted_settles ok reported = go (settle_within (in_all mosts) f ts) refl (again_comes f mosts 0 ts ok)
       where
         go : (s : Settled) → settle_within (in_all mosts) f ts ≡ s → Comes 0 s again → Settles
-        go (Refused why) e h =
+        go Refused e h =
             let s = settle_none f ts ok (refused_within f (in_all mosts) ts ok e) in
             (h ∙ sym (ap (λ (r : ListResult). r.answer) s), λ z. let q : ◌≡◌ {A = ℕ} 7 0 = sym (ap (λ (a : Told). a.number) h) ∙ z in absurd (omega arith))
         go (After k us) e h =
             let l : 0 + k ≡ k = omega arith in
             let s = settle_done f ts ok k us (settled_within f (in_all mosts) ts ok k us e).2 in
-            let same = h ∙ ap (λ (n : ℕ). list_result (told 0 (pos n ∷ [])) us) l ∙ sym s in
+            let same = h ∙ ap (λ (n : ℕ). list_result (told 0 (n ∷ [])) us) l ∙ sym s in
             (ap (λ (r : ListResult). r.answer) same, λ z. ap (λ (r : ListResult). r.tasks) same)
         go (Unsettled us) e h = absurd (reported (ap (λ (r : ListResult). r.answer) h))
 
@@ -246,10 +243,10 @@ module _ (f : Frame) (ts : List Task) where
     accepted_ends ok l c = go (settle_within (in_all mosts) f ts) (within_most f ts ok (in_all mosts) l) refl (again_comes f mosts 0 ts ok)
       where
         go : (s : Settled) → settle_within (in_all mosts) f ts ≡ settle f ts → settle_within (in_all mosts) f ts ≡ s → Comes 0 s again → ⊥
-        go (Refused why) d e h = let q : ◌≡◌ {A = ℕ} 7 0 = ap (λ (a : Told). a.number) (sym h ∙ c) in omega arith
+        go Refused d e h = let q : ◌≡◌ {A = ℕ} 7 0 = ap (λ (a : Told). a.number) (sym h ∙ c) in omega arith
         go (After k us) d e h =
             let some = (settled_within f (in_all mosts) ts ok k us e).0 in
-            let q : 0 + k ≡ 0 = ap (λ (a : Told). nat_abs (get_or a.values 0 (pos 0))) (sym (ap (λ (r : ListResult). r.answer) h) ∙ c) in
+            let q : 0 + k ≡ 0 = ap (λ (a : Told). get_or a.values 0 0) (sym (ap (λ (r : ListResult). r.answer) h) ∙ c) in
             omega arith
         go (Unsettled us) d e h = settle_settles f ts ok us (sym d ∙ e)
 

@@ -21,7 +21,7 @@ use Rattle.rules.specs.Keeps.{Keeps, HoldsNone}
 
 -- ---- a pass
 pub then_same : (o : Outcome) (k k' : List Task → Outcome) → ((us : List Task) → k us ≡ k' us) → then o k ≡ then o k'
-then_same (NoPlan why) k k' h = refl
+then_same NoPlan k k' h = refl
 then_same (Plan us) k k' h = h us
 
 -- the step of a place is a move
@@ -57,7 +57,7 @@ play_append f (m ∷ ms) ns ts =
     ∙ sym (then_then (move f m ts))
   where
     then_then : (o : Outcome) → then (then o (play f ms)) (play f ns) ≡ then o (λ us. then (play f ms us) (play f ns))
-    then_then (NoPlan why) = refl
+    then_then NoPlan = refl
     then_then (Plan us) = refl
 
 pub passes_play : (k : ℕ) (f : Frame) (ts : List Task) → passes k f ts ≡ play f (many_passes k f) ts
@@ -70,17 +70,17 @@ passes_play (suc k) f ts =
 
 -- ---- settling
 abbrev pub SettledSound : Frame → List Task → Settled → Type 0
-SettledSound f ts (Refused why) = HoldsNone f ts
+SettledSound f ts Refused = HoldsNone f ts
 SettledSound f ts (After n us) = Keeps f ts us
 SettledSound f ts (Unsettled us) = Keeps f ts us
 
 more_sound : (f : Frame) (us ts : List Task) (s : Settled) → Keeps f ts us → SettledSound f us s → SettledSound f ts (one_pass_more s)
-more_sound f us ts (Refused why) h g = nothing_then h g
+more_sound f us ts Refused h g = nothing_then h g
 more_sound f us ts (After n vs) h g = keeps_then h g
 more_sound f us ts (Unsettled vs) h g = keeps_then h g
 
 unless_same_sound : (f : Frame) (ts : List Task) (k : List Task → Settled) (o : Outcome) → Sound f ts o → ((us : List Task) → check f us ≡ Accepted → SettledSound f us (k us)) → SettledSound f ts (unless_same k ts o)
-unless_same_sound f ts k (NoPlan why) h g = h
+unless_same_sound f ts k NoPlan h g = h
 unless_same_sound f ts k (Plan us) h g =
     if-case (SettledSound f ts) (same_tasks ts us) (After 1 us) (one_pass_more (k us)) (λ e. h)
     (λ e. more_sound f us ts (k us) h (g us h.accepted))

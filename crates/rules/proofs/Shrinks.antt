@@ -43,12 +43,12 @@ TaskShrunk t (Kept u) = SubTask u t × Live u
 
 -- what a step, or some in a row, may leave of ts
 abbrev pub Shrunk : List Task → Outcome → Type 0
-Shrunk ts (NoPlan why) = Unit {0}
+Shrunk ts NoPlan = Unit {0}
 Shrunk ts (Plan us) = Subs us ts × Lives us
 
 and_then_shrunk : (t : Task) (ts : List Task) (n : Narrowed) (o : Outcome) → TaskShrunk t n → Shrunk ts o → Shrunk (t ∷ ts) (and_then n o)
 and_then_shrunk t ts (RanOut v) o h g = tt
-and_then_shrunk t ts (Kept u) (NoPlan why) h g = tt
+and_then_shrunk t ts (Kept u) NoPlan h g = tt
 and_then_shrunk t ts (Kept u) (Plan us) h g = (more_subs h.0 g.0, also h.1 g.1)
 
 -- a step that takes each task by itself shrinks the list where it shrinks each task
@@ -109,11 +109,11 @@ module _ (r : ℕ) (limit : Floor) (ts : List Task) (days : List ℤ) where
 pub step_shrunk : (r : ℕ) (limit : Floor) (ts : List Task) → Shrunk ts (at_least_step r limit ts)
 unfolding at_least_step
 step_shrunk r limit ts =
-    if-case (Shrunk ts) (any (shortfall r limit ts) (listed_days ts)) _ (each (narrowed r limit ts (listed_days ts)) ts) (λ e. tt)
+    if-case (Shrunk ts) (any (shortfall r limit ts) (listed_days ts)) NoPlan (each (narrowed r limit ts (listed_days ts)) ts) (λ e. tt)
     (λ e. each_shrunk (narrowed r limit ts (listed_days ts)) (every_shrunk r limit ts (listed_days ts) ts))
 
 negated_shrunk : (ts : List Task) (o : Outcome) → Shrunk (map negated ts) o → Shrunk ts (negated_plan o)
-negated_shrunk ts (NoPlan why) h = tt
+negated_shrunk ts NoPlan h = tt
 negated_shrunk ts (Plan us) h = (subs_back ts us h.0, lives_negated h.1)
 
 sense_step_shrunk : (sense : Sense) (r : ℕ) (limit : Floor) (ts : List Task) → Shrunk ts (sense_step sense r limit ts)

@@ -2,7 +2,7 @@
 -- and ranges of ts, `count` is its length, `check f ts ≡ Accepted` says that ts passes the entry checks, `Keeps f ts us` that us has the very
 -- same allowed plans, passes the checks again and lies inside ts, `HoldsNone f ts` that ts has none. Nothing is asked of the ranges beyond the
 -- checks: they may be unbalanced. The frame f is what no step changes.
-use mathlib.Core.Path.{◌≡◌, sym, ap, ◌∙◌, subst}
+use mathlib.Core.Path.{◌≡◌, ap, subst}
 use Prim.Native.Nat.{ℕ, suc, ◌≤◌, ◌<◌}
 use mathlib.Core.List.{List, [], ◌∷◌, map}
 use mathlib.Core.Bool.{true, false}
@@ -13,7 +13,6 @@ use Rattle.integers.specs.Tests.{if, and, filter, all, any}
 use Rattle.integers.specs.Lists.{In}
 use Rattle.integers.proofs.Lists.{each_in}
 use Rattle.plan.specs.declared.Task.{Task}
-use Rattle.plan.specs.declared.Reason.{Reason}
 use Rattle.plan.specs.declared.Checked.TheVariants.{Accepted}
 use Rattle.rules.specs.Frame.{Frame, resource_count, Floor}
 use Rattle.rules.specs.Allowed.{Choice, inside_all, allowed}
@@ -24,14 +23,11 @@ use Rattle.rules.specs.Step.{sure, shortfall, needed, barred, listed_days, resou
 use Rattle.rules.specs.Settle.{pass, settle, same_tasks, rooms, most_passes}
 use Rattle.rules.specs.Settle.Settled.{Refused, After, Unsettled}
 use Rattle.rules.specs.Moves.{Move, move, play, one_pass, passes, many_passes, Stops}
-use Rattle.rules.specs.Fixed.{fixed, one_value, one_resource, plan_in}
-use Rattle.rules.specs.Fixed.Found.{None, Some}
+use Rattle.rules.specs.Fixed.{fixed, one_value, one_resource}
 use Rattle.rules.specs.Calls.{check}
 use Rattle.rules.specs.Keeps.{Keeps, HoldsNone}
 use Rattle.rules.proofs.Keeps.{Sound, balance_sound, step_sound, play_sound, move_sound}
 use Rattle.rules.proofs.Passes.{pass_play, passes_play, pass_sound, SettledSound, settle_sound}
-use Rattle.rules.specs.Reasons.{FirstStep}
-use Rattle.rules.proofs.Reasons.{sequence_reason}
 use Rattle.rules.proofs.FixedPass.{pass_fixed, some_choice, pass_one_choice}
 use Rattle.rules.proofs.Rooms.{keeps_less}
 use Rattle.rules.proofs.Checks.{check_live}
@@ -44,34 +40,34 @@ module _ (f : Frame) (ts : List Task) (ok : check f ts ≡ Accepted) where
   pub balance_keeps : (us : List Task) → balance ts ≡ Plan us → Keeps f ts us
   balance_keeps us e = subst (Sound f ts) e (balance_sound f ts ok)
 
-  pub balance_refuses : {why : Reason} → balance ts ≡ NoPlan why → HoldsNone f ts
+  pub balance_refuses : balance ts ≡ NoPlan → HoldsNone f ts
   balance_refuses e = subst (Sound f ts) e (balance_sound f ts ok)
 
   -- of the resource at any place r of the list
   pub resource_step_keeps : (r : ℕ) → r < resource_count f → (us : List Task) → resource_step f r ts ≡ Plan us → Keeps f ts us
   resource_step_keeps r l us e = subst (Sound f ts) e (step_sound f r l ts ok)
 
-  pub resource_step_refuses : {why : Reason} → (r : ℕ) → r < resource_count f → resource_step f r ts ≡ NoPlan why → HoldsNone f ts
+  pub resource_step_refuses : (r : ℕ) → r < resource_count f → resource_step f r ts ≡ NoPlan → HoldsNone f ts
   resource_step_refuses r l e = subst (Sound f ts) e (step_sound f r l ts ok)
 
   -- ---- any sequence of such steps, of any length and order, each on what the one before left: the same
   pub sequence_keeps : (ms : List Move) (us : List Task) → play f ms ts ≡ Plan us → Keeps f ts us
   sequence_keeps ms us e = subst (Sound f ts) e (play_sound f ms ts ok)
 
-  pub sequence_refuses : {why : Reason} → (ms : List Move) → play f ms ts ≡ NoPlan why → HoldsNone f ts
+  pub sequence_refuses : (ms : List Move) → play f ms ts ≡ NoPlan → HoldsNone f ts
   sequence_refuses ms e = subst (Sound f ts) e (play_sound f ms ts ok)
 
   pub pass_keeps : (us : List Task) → pass f ts ≡ Plan us → Keeps f ts us
   pass_keeps us e = subst (Sound f ts) e (pass_sound f ts ok)
 
-  pub pass_refuses : {why : Reason} → pass f ts ≡ NoPlan why → HoldsNone f ts
+  pub pass_refuses : pass f ts ≡ NoPlan → HoldsNone f ts
   pass_refuses e = subst (Sound f ts) e (pass_sound f ts ok)
 
   pub settle_keeps : (k : ℕ) (us : List Task) → settle f ts ≡ After k us → Keeps f ts us
   unfolding settle
   settle_keeps k us e = subst (SettledSound f ts) e (settle_sound (suc (rooms ts)) f ts ok)
 
-  pub settle_refuses : {why : Reason} → settle f ts ≡ Refused why → HoldsNone f ts
+  pub settle_refuses : settle f ts ≡ Refused → HoldsNone f ts
   unfolding settle
   settle_refuses e = subst (SettledSound f ts) e (settle_sound (suc (rooms ts)) f ts ok)
 
@@ -80,7 +76,7 @@ module _ (f : Frame) (ts : List Task) (ok : check f ts ≡ Accepted) where
   unfolding count
   sequence_counts ms us e = ap length (sequence_keeps ms us e).same
 
-  pub sequence_counts_none : {why : Reason} → (ms : List Move) → play f ms ts ≡ NoPlan why → count f ts ≡ 0
+  pub sequence_counts_none : (ms : List Move) → play f ms ts ≡ NoPlan → count f ts ≡ 0
   unfolding count
   sequence_counts_none ms e = ap length (sequence_refuses ms e).none
 
@@ -88,7 +84,7 @@ module _ (f : Frame) (ts : List Task) (ok : check f ts ≡ Accepted) where
   unfolding count
   settle_counts k us e = ap length (settle_keeps k us e).same
 
-  pub settle_counts_none : {why : Reason} → settle f ts ≡ Refused why → count f ts ≡ 0
+  pub settle_counts_none : settle f ts ≡ Refused → count f ts ≡ 0
   unfolding count
   settle_counts_none e = ap length (settle_refuses e).none
 
@@ -97,7 +93,7 @@ module _ (f : Frame) (ts : List Task) (ok : check f ts ≡ Accepted) where
   pub choice_inside : (cs : List Choice) × (inside_all ts cs ≡ true)
   choice_inside = some_choice f ts ok
 
-  pub fixed_choice : all one_value ts ≡ true → all one_resource ts ≡ true → (cs : List Choice) → inside_all ts cs ≡ true → plan_in (pass f ts) ≡ if (allowed f cs) (Some ts) None
+  pub fixed_choice : all one_value ts ≡ true → all one_resource ts ≡ true → (cs : List Choice) → inside_all ts cs ≡ true → pass f ts ≡ if (allowed f cs) (Plan ts) NoPlan
   fixed_choice v w cs h = pass_one_choice f ts ok v w cs h
 
   -- ---- settling ends, and its passes are at most one more than all that could be removed
@@ -112,14 +108,8 @@ module _ (f : Frame) (ts : List Task) (ok : check f ts ≡ Accepted) where
   settle_stops k us e = settle_stopped f ts k us e
 
   -- and where it ends in no plan, the pass that finds none comes within as many
-  pub refusal_bound : {why : Reason} → settle f ts ≡ Refused why → (k : ℕ) × (k ≤ most_passes ts) × (passes k f ts ≡ NoPlan why)
+  pub refusal_bound : settle f ts ≡ Refused → (k : ℕ) × (k ≤ most_passes ts) × (passes k f ts ≡ NoPlan)
   refusal_bound e = subst (Ended f (most_passes ts) ts) e (settle_ends f ts ok)
-
-  -- and its reason is the first in the order of the steps: that of the first step of these passes that finds no plan
-  pub settle_reason : {why : Reason} → settle f ts ≡ Refused why → (k : ℕ) × (k ≤ most_passes ts) × FirstStep f (many_passes k f) ts why
-  settle_reason {why} e =
-      let b = refusal_bound e in
-      (b.0, b.1, sequence_reason f (many_passes b.0 f) ts why (sym (passes_play b.0 f ts) ∙ b.2))
 
   -- because a step that changes something takes away some of what could be removed
   pub step_takes_room : (m : Move) (us : List Task) → move f m ts ≡ Plan us → same_tasks ts us ≡ false → rooms us < rooms ts
@@ -147,5 +137,5 @@ pub passes_are_sequence : (f : Frame) (ts : List Task) (k : ℕ) → passes k f 
 passes_are_sequence f ts k = passes_play k f ts
 
 -- one fixed choice, written as such
-pub fixed_choice_listed : (f : Frame) (cs : List Choice) → plan_in (pass f (map fixed cs)) ≡ if (allowed f cs) (Some (map fixed cs)) None
+pub fixed_choice_listed : (f : Frame) (cs : List Choice) → pass f (map fixed cs) ≡ if (allowed f cs) (Plan (map fixed cs)) NoPlan
 fixed_choice_listed f cs = pass_fixed f cs

@@ -10,7 +10,6 @@ use Rattle.plan.specs.declared.Task.{Task}
 use Rattle.plan.specs.declared.Narrowed.{Narrowed}
 use Rattle.plan.specs.declared.Narrowed.TheVariants.{Kept, RanOut}
 use Rattle.plan.specs.declared.Value.{Value}
-use Rattle.plan.specs.Refusals.{emptied}
 use Rattle.rules.specs.Balance.{Outcome, and_then, each}
 use Rattle.rules.specs.Balance.Outcome.{NoPlan, Plan}
 
@@ -45,7 +44,7 @@ module _ (f : Task → Narrowed) where
   each_same d i ts h e = rw add-one (same_suc d i ts h e)
 
   -- a task of which a value ran out
-  pub each_out : (d : Task) (v : Value) (i : ℕ) (ts : List Task) → i < length ts → f (get_or ts i d) ≡ RanOut v → each_left i ts ≡ NoPlan (emptied i v)
+  pub each_out : (d : Task) (v : Value) (i : ℕ) (ts : List Task) → i < length ts → f (get_or ts i d) ≡ RanOut v → each_left i ts ≡ NoPlan
   unfolding each_left each
   each_out d v i [] h e = absurd (not-suc-le-zero h)
   each_out d v zero (t ∷ ts) h e = ap (λ (n : Narrowed). and_then n (each f ts)) e

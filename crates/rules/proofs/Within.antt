@@ -6,7 +6,6 @@ use native.Mathlib.Omega.{arith}
 use mathlib.Core.List.{List}
 use Rattle.integers.proofs.Tests.{by_cases, if-case}
 use Rattle.plan.specs.declared.Task.{Task}
-use Rattle.plan.specs.declared.Reason.{Reason}
 use Rattle.plan.specs.declared.Checked.TheVariants.{Accepted}
 use Rattle.rules.specs.Frame.{Frame}
 use Rattle.rules.specs.Balance.{Outcome}
@@ -16,37 +15,37 @@ use Rattle.rules.specs.Settle.Settled.{Refused, After, Unsettled}
 use Rattle.rules.specs.Moves.{passes}
 use Rattle.rules.specs.Calls.{check}
 use Rattle.rules.proofs.Rooms.{same_tasks_is}
-use Rattle.rules.proofs.Ends.{same_plan_lem, same_reason, within_most}
+use Rattle.rules.proofs.Ends.{same_plan_lem, within_most}
 
 -- ---- n passes before those that s counts
 abbrev pub plus_passes : ℕ → Settled → Settled
-plus_passes n (Refused why) = Refused why
+plus_passes n Refused = Refused
 plus_passes n (After k us) = After (n + k) us
 plus_passes n (Unsettled us) = Unsettled us
 
 pub plus_none : (s : Settled) → plus_passes 0 s ≡ s
-plus_none (Refused why) = refl
+plus_none Refused = refl
 plus_none (After k us) = ap (λ (j : ℕ). After j us) (omega arith)
 plus_none (Unsettled us) = refl
 
 pub plus_more : (n : ℕ) (s : Settled) → plus_passes n (one_pass_more s) ≡ plus_passes (n + 1) s
-plus_more n (Refused why) = refl
+plus_more n Refused = refl
 plus_more n (After k us) = ap (λ (j : ℕ). After j us) (omega arith)
 plus_more n (Unsettled us) = refl
 
 one_more_plus : (n : ℕ) (s : Settled) → one_pass_more (plus_passes n s) ≡ plus_passes (suc n) s
-one_more_plus n (Refused why) = refl
+one_more_plus n Refused = refl
 one_more_plus n (After k us) = ap (λ (j : ℕ). After j us) (omega arith)
 one_more_plus n (Unsettled us) = refl
 
 -- ---- within m passes, and where these were too few, on from what they left
 abbrev pub onward : ℕ → (List Task → Settled) → Settled → Settled
-onward m k (Refused why) = Refused why
+onward m k Refused = Refused
 onward m k (After j us) = After j us
 onward m k (Unsettled us) = plus_passes m (k us)
 
 one_more_onward : (m : ℕ) (k : List Task → Settled) (s : Settled) → one_pass_more (onward m k s) ≡ onward (suc m) k (one_pass_more s)
-one_more_onward m k (Refused why) = refl
+one_more_onward m k Refused = refl
 one_more_onward m k (After j us) = refl
 one_more_onward m k (Unsettled us) = one_more_plus m (k us)
 
@@ -61,14 +60,14 @@ module _ (f : Frame) where
       ap (λ (k : ℕ). settle_within k f ts) e ∙ go (pass f ts) (within_onward m n)
     where
       go : (o : Outcome) → ((us : List Task) → settle_within (m + n) f us ≡ onward m (settle_within n f) (settle_within m f us)) → unless_same (settle_within (m + n) f) ts o ≡ onward (suc m) (settle_within n f) (unless_same (settle_within m f) ts o)
-      go (NoPlan why) k = refl
+      go NoPlan k = refl
       go (Plan us) k =
           by_cases (same_tasks ts us) (λ e. rw e)
           (λ e. rw (e, k us) (one_more_onward m (settle_within n f) (settle_within m f us)))
 
   -- ---- what is left is what so many passes leave: once a pass changed nothing, no later one does
   abbrev Reached : ℕ → List Task → Settled → Type 0
-  Reached n ts (Refused why) = passes n f ts ≡ NoPlan why
+  Reached n ts Refused = passes n f ts ≡ NoPlan
   Reached n ts (After k us) = (1 ≤ k) × (k ≤ n) × (passes n f ts ≡ Plan us)
   Reached n ts (Unsettled us) = passes n f ts ≡ Plan us
 
@@ -78,7 +77,7 @@ module _ (f : Frame) where
   settled_stays (suc n) us e = ap (λ (o : Outcome). then o (passes n f)) e ∙ settled_stays n us e
 
   more_reached : (n : ℕ) (ts us : List Task) (s : Settled) → passes (suc n) f ts ≡ passes n f us → Reached n us s → Reached (suc n) ts (one_pass_more s)
-  more_reached n ts us (Refused why) e h = e ∙ h
+  more_reached n ts us Refused e h = e ∙ h
   more_reached n ts us (After k vs) e h = let l = h.1 in (omega arith, omega arith, e ∙ h.2)
   more_reached n ts us (Unsettled vs) e h = e ∙ h
 
@@ -91,7 +90,7 @@ module _ (f : Frame) where
       next o e = ap (λ (x : Outcome). then x (passes n f)) e
 
       go : (o : Outcome) → pass f ts ≡ o → ((us : List Task) → Reached n us (settle_within n f us)) → Reached (suc n) ts (unless_same (settle_within n f) ts o)
-      go (NoPlan why) e k = next (NoPlan why) e
+      go NoPlan e k = next NoPlan e
       go (Plan us) e k =
           if-case (Reached (suc n) ts) (same_tasks ts us) (After 1 us) (one_pass_more (settle_within n f us))
           (λ q.
@@ -114,7 +113,7 @@ module _ (f : Frame) where
         (r.0, r.1, beyond ∙ ap (onward n (settle_within (most_passes ts) f)) e)
 
     -- and where it says that there is no plan, settling does
-    pub refused_within : {why : Reason} → settle_within n f ts ≡ Refused why → settle f ts ≡ Refused why
+    pub refused_within : settle_within n f ts ≡ Refused → settle f ts ≡ Refused
     refused_within e = beyond ∙ ap (onward n (settle_within (most_passes ts) f)) e
 
     -- settling takes no more passes
@@ -126,7 +125,7 @@ module _ (f : Frame) where
 
         -- on from a list that is not settled there is a pass at least
         later : (vs : List Task) (s : Settled) → settle_within (most_passes ts) f vs ≡ s → plus_passes n s ≡ After k us → n < k
-        later vs (Refused why) d h = absurd (let q : ◌≡◌ {A = ℕ} 0 1 = cc in omega arith)
+        later vs Refused d h = absurd (let q : ◌≡◌ {A = ℕ} 0 1 = cc in omega arith)
         later vs (After j ws) d h =
             let r = (subst (Reached (most_passes ts) vs) d (within_reached (most_passes ts) vs)).0 in
             let q = after_once h in
@@ -134,20 +133,20 @@ module _ (f : Frame) where
         later vs (Unsettled ws) d h = absurd (let q : ◌≡◌ {A = ℕ} 0 1 = cc in omega arith)
 
         go : (s : Settled) → settle_within n f ts ≡ s → settle_within n f ts ≡ After k us
-        go (Refused why) d = absurd (let h : Refused why ≡ After k us = sym (refused_within d) ∙ e in let q : ◌≡◌ {A = ℕ} 0 1 = cc in omega arith)
+        go Refused d = absurd (let h : Refused ≡ After k us = sym (refused_within d) ∙ e in let q : ◌≡◌ {A = ℕ} 0 1 = cc in omega arith)
         go (After j vs) d = d ∙ sym (settled_within j vs d).2 ∙ e
         go (Unsettled vs) d =
             absurd (let q = later vs (settle_within (most_passes ts) f vs) refl (ap (onward n (settle_within (most_passes ts) f)) (sym d) ∙ sym beyond ∙ e) in omega arith)
 
     -- one of so many passes finds no plan
-    pub within_none : {why : Reason} → passes n f ts ≡ NoPlan why → settle_within n f ts ≡ Refused why
-    within_none {why} e = go (settle_within n f ts) refl
+    pub within_none : passes n f ts ≡ NoPlan → settle_within n f ts ≡ Refused
+    within_none e = go (settle_within n f ts) refl
       where
         clashes : {us : List Task} {P : Type 0} → passes n f ts ≡ Plan us → P
         clashes h = absurd (let d = sym e ∙ h in let q : ◌≡◌ {A = ℕ} 0 1 = cc in omega arith)
 
-        go : (s : Settled) → settle_within n f ts ≡ s → settle_within n f ts ≡ Refused why
-        go (Refused other) d = d ∙ ap Refused (same_reason (sym (reached_by (Refused other) d) ∙ e))
+        go : (s : Settled) → settle_within n f ts ≡ s → settle_within n f ts ≡ Refused
+        go Refused d = d
         go (After k us) d = clashes (reached_by (After k us) d).2
         go (Unsettled us) d = clashes (reached_by (Unsettled us) d)
 
@@ -156,7 +155,7 @@ module _ (f : Frame) where
     within_left us e m = go (settle_within n f ts) refl
       where
         go : (s : Settled) → settle_within n f ts ≡ s → settle_within n f ts ≡ Unsettled us
-        go (Refused why) d = absurd (let h = sym (reached_by (Refused why) d) ∙ e in let q : ◌≡◌ {A = ℕ} 0 1 = cc in omega arith)
+        go Refused d = absurd (let h = sym (reached_by Refused d) ∙ e in let q : ◌≡◌ {A = ℕ} 0 1 = cc in omega arith)
         go (After k vs) d = absurd (let r = settled_within k vs d in let l = r.1 in let g = m k vs r.2 in omega arith)
         go (Unsettled vs) d = d ∙ ap Unsettled (same_plan_lem (sym (reached_by (Unsettled vs) d) ∙ e))
 
@@ -166,22 +165,22 @@ module _ (f : Frame) where
   next_pass zero ts us e = then_plan (pass f ts) ∙ ap (pass f) (same_plan_lem e)
     where
       then_plan : (o : Outcome) → then o (passes 0 f) ≡ o
-      then_plan (NoPlan why) = refl
+      then_plan NoPlan = refl
       then_plan (Plan vs) = refl
   next_pass (suc k) ts us e = go (pass f ts) e (next_pass k)
     where
       go : (o : Outcome) → then o (passes k f) ≡ Plan us → ((vs ws : List Task) → passes k f vs ≡ Plan ws → passes (suc k) f vs ≡ pass f ws) → then o (passes (suc k) f) ≡ pass f us
-      go (NoPlan why) h g = absurd (let q : ◌≡◌ {A = ℕ} 0 1 = cc in omega arith)
+      go NoPlan h g = absurd (let q : ◌≡◌ {A = ℕ} 0 1 = cc in omega arith)
       go (Plan vs) h g = g vs us h
 
   -- ---- a pass that finds no plan comes after passes that did not
-  pub first_failing : {why : Reason} → (k : ℕ) (ts : List Task) → passes k f ts ≡ NoPlan why → (j : ℕ) × (j < k) × (us : List Task) × (passes j f ts ≡ Plan us) × (pass f us ≡ NoPlan why)
+  pub first_failing : (k : ℕ) (ts : List Task) → passes k f ts ≡ NoPlan → (j : ℕ) × (j < k) × (us : List Task) × (passes j f ts ≡ Plan us) × (pass f us ≡ NoPlan)
   unfolding passes
-  first_failing {why} zero ts e = absurd (let q : ◌≡◌ {A = ℕ} 0 1 = cc in omega arith)
-  first_failing {why} (suc k) ts e = go (pass f ts) refl (first_failing k)
+  first_failing zero ts e = absurd (let q : ◌≡◌ {A = ℕ} 0 1 = cc in omega arith)
+  first_failing (suc k) ts e = go (pass f ts) refl (first_failing k)
     where
-      go : (o : Outcome) → pass f ts ≡ o → ((vs : List Task) → passes k f vs ≡ NoPlan why → (j : ℕ) × (j < k) × (us : List Task) × (passes j f vs ≡ Plan us) × (pass f us ≡ NoPlan why)) → (j : ℕ) × (j < suc k) × (us : List Task) × (passes j f ts ≡ Plan us) × (pass f us ≡ NoPlan why)
-      go (NoPlan other) h g = (0, omega arith, ts, refl, h ∙ ap (λ (o : Outcome). then o (passes k f)) (sym h) ∙ e)
+      go : (o : Outcome) → pass f ts ≡ o → ((vs : List Task) → passes k f vs ≡ NoPlan → (j : ℕ) × (j < k) × (us : List Task) × (passes j f vs ≡ Plan us) × (pass f us ≡ NoPlan)) → (j : ℕ) × (j < suc k) × (us : List Task) × (passes j f ts ≡ Plan us) × (pass f us ≡ NoPlan)
+      go NoPlan h g = (0, omega arith, ts, refl, h)
       go (Plan vs) h g =
           let r = g vs (ap (λ (o : Outcome). then o (passes k f)) (sym h) ∙ e) in
           let l = r.1 in

@@ -1,6 +1,6 @@
 -- "The host cuts off long calls": settling in several calls, each of so many passes at most, on what the one before left, until one reports a
 -- count or is refused.
-use Rattle.std.specs.Prelude.{ℕ, ◌+◌, List, [], ◌∷◌, Bool, pos, nat_abs, eqb, get_or}
+use Rattle.std.specs.Prelude.{ℕ, ◌+◌, List, [], ◌∷◌, Bool, eqb, get_or}
 use Rattle.integers.specs.Tests.{if, and}
 use Rattle.plan.specs.declared.Task.{Task}
 use Rattle.plan.specs.declared.Call.TheVariants.{Within}
@@ -15,18 +15,14 @@ in_all (most ∷ mosts) = most + in_all mosts
 
 -- what a call answers whose passes were too few: nothing is refused, and no count is reported
 abbrev pub no_count : Told
-no_count = told 0 (pos 0 ∷ [])
-
--- the passes that are told where nothing is refused
-abbrev pub passes_in : Told → ℕ
-passes_in a = nat_abs (get_or a.values 0 (pos 0))
+no_count = told 0 (0 ∷ [])
 
 abbrev pub goes_on : Told → Bool
-goes_on a = and (eqb a.number 0) (eqb (passes_in a) 0)
+goes_on a = and (eqb a.number 0) (eqb (get_or a.values 0 0) 0)
 
 -- the host adds up: the passes of the calls before, and those that the last one counts; a refusal stays as it is
 abbrev pub with_before : ℕ → Told → Told
-with_before before a = if (eqb a.number 0) (told 0 (pos (before + passes_in a) ∷ [])) a
+with_before before a = if (eqb a.number 0) (told 0 ((before + get_or a.values 0 0) ∷ [])) a
 
 -- with so many passes made before
 unfoldable pub settle_again : ℕ → List ℕ → Frame → List Task → ListResult

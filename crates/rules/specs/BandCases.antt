@@ -4,12 +4,10 @@ use Rattle.integers.specs.Hull.{range}
 use Rattle.plan.specs.declared.Task.{Task}
 use Rattle.plan.specs.declared.Band.{Band}
 use Rattle.plan.specs.declared.Sense.TheVariants.{AtMost, AtLeast}
-use Rattle.plan.specs.declared.Reason.{Reason}
 use Rattle.plan.specs.declared.Call.TheVariants.{Step, Settle}
 use Rattle.plan.specs.declared.Refusal.TheVariants.{RepeatedIdentifier, LimitOutside, SetOutside, NoPlan, NoSuchResource, BandOutside}
 use Rattle.plan.specs.Days.{day}
 use Rattle.plan.specs.Powers.{power}
-use Rattle.plan.specs.Refusals.{short}
 use Rattle.plan.specs.Tasks.{most_bands}
 use Rattle.rules.specs.Frame.{Frame, framed}
 use Rattle.rules.specs.Calls.{Result, done, refused}
@@ -33,9 +31,8 @@ nowhere = task 0 (one (pos 1)) (one (pos 1)) (one (pos 2)) (one (pos 0)) ∷ []
 abbrev pub stays : Frame → List Task → Case
 stays f ts = banded f ts (done 1 ts)
 
--- no plan, for such a reason
-abbrev pub has_none : Reason → Frame → List Task → Case
-has_none e f ts = banded f ts (refused (NoPlan e) ts)
+abbrev pub has_none : Frame → List Task → Case
+has_none f ts = banded f ts (refused NoPlan ts)
 
 -- so many bands of limit 0 on the first resource, on one day after another
 abbrev daily : ℕ → ℕ → List Band
@@ -61,13 +58,12 @@ need_after = sure_task ∷ here (pos 4) (pos 1) (pos 5) (pos 2) ∷ []
 
 abbrev pub band_cases : List Case
 band_cases =
-    -- a band on the first listed day: days 1 and 2 are covered at level 0, and limit 5 stands until the band begins; one from day 2 on leaves day 1
-    -- short
+    -- a band on the first listed day: days 1 and 2 are covered at level 0, and limit 5 stands until the band begins
     stays (framed AtLeast (limit (pos 5)) (band 0 (pos 1) (pos 0) ∷ [])) (here (pos 1) (pos 2) (pos 3) (pos 0) ∷ [])
-    ∷ has_none (short 0 (pos 1)) (framed AtLeast (limit (pos 5)) (band 0 (pos 2) (pos 0) ∷ [])) (here (pos 1) (pos 2) (pos 3) (pos 0) ∷ [])
-    -- one beyond the last listed day: from day 3 on nothing is covered; day 2 is, and falls short of one from day 2 on
+    ∷ has_none (framed AtLeast (limit (pos 5)) (band 0 (pos 2) (pos 0) ∷ [])) (here (pos 1) (pos 2) (pos 3) (pos 0) ∷ [])
+    -- one beyond the last listed day: from day 3 on nothing is covered
     ∷ stays (framed AtLeast (limit (pos 0)) (band 0 (pos 3) (pos 9) ∷ [])) (here (pos 1) (pos 2) (pos 3) (pos 0) ∷ [])
-    ∷ has_none (short 0 (pos 2)) (framed AtLeast (limit (pos 0)) (band 0 (pos 2) (pos 9) ∷ [])) (here (pos 1) (pos 2) (pos 3) (pos 0) ∷ [])
+    ∷ has_none (framed AtLeast (limit (pos 0)) (band 0 (pos 2) (pos 9) ∷ [])) (here (pos 1) (pos 2) (pos 3) (pos 0) ∷ [])
     -- two on neighbouring days: level 2 fails limit 3 on one day; in the middle that day stays inside the range, at the rim it goes
     ∷ stays (framed AtLeast (limit (pos 0)) (band 0 (pos 2) (pos 3) ∷ band 0 (pos 3) (pos 1) ∷ [])) (moving 1 (pos 0) (pos 4) (pos 1) (pos 2) ∷ [])
     ∷ banded (framed AtLeast (limit (pos 0)) (band 0 (pos 0) (pos 3) ∷ band 0 (pos 1) (pos 1) ∷ [])) (moving 1 (pos 0) (pos 4) (pos 1) (pos 2) ∷ [])
@@ -78,27 +74,25 @@ band_cases =
     -- negative days: two days at level 1 can't touch -7, -6 and -5, where the limit is 2
     ∷ banded (framed AtLeast (limit (pos 0)) (band 0 (negsuc 6) (pos 2) ∷ band 0 (negsuc 3) (pos 0) ∷ [])) (moving 1 (negsuc 7) (negsuc 2) (pos 2) (pos 1) ∷ [])
     (done 2 (moving 1 (negsuc 3) (negsuc 2) (pos 2) (pos 1) ∷ []))
-    -- bands of two resources: on days 2 and 3 the first has limit 5, the second not before day 4; with one from day 3 on the job, sent to the second,
-    -- falls short there on day 3
+    -- bands of two resources: on days 2 and 3 the first has limit 5, the second not before day 4
     ∷ banded (framed AtLeast (two (pos 0) (pos 0)) (band 0 (pos 2) (pos 5) ∷ band 1 (pos 4) (pos 5) ∷ [])) (moving 3 (pos 2) (pos 2) (pos 2) (pos 1) ∷ [])
     (done 2 (moving 2 (pos 2) (pos 2) (pos 2) (pos 1) ∷ []))
-    ∷ has_none (short 1 (pos 3)) (framed AtLeast (two (pos 0) (pos 0)) (band 0 (pos 2) (pos 5) ∷ band 1 (pos 3) (pos 5) ∷ [])) (moving 3 (pos 2) (pos 2) (pos 2) (pos 1) ∷ [])
-    -- at most: A takes 2 on days 1 to 4; with limit 2 from day 3 on and 0 from day 5 on, B is done by day 2; with limit 1 from day 4 on, A is too
-    -- high on day 4
+    ∷ has_none (framed AtLeast (two (pos 0) (pos 0)) (band 0 (pos 2) (pos 5) ∷ band 1 (pos 3) (pos 5) ∷ [])) (moving 3 (pos 2) (pos 2) (pos 2) (pos 1) ∷ [])
+    -- at most: A takes 2 on days 1 to 4; with limit 2 from day 3 on and 0 from day 5 on, B is done by day 2
     ∷ banded (framed AtMost (limit (pos 4)) (band 0 (pos 3) (pos 2) ∷ band 0 (pos 5) (pos 0) ∷ [])) (here (pos 1) (pos 4) (pos 5) (pos 2) ∷ moving 1 (pos 0) (pos 6) (pos 1) (pos 1) ∷ [])
     (done 2 (here (pos 1) (pos 4) (pos 5) (pos 2) ∷ moving 1 (pos 0) (pos 2) (pos 1) (pos 1) ∷ []))
-    ∷ has_none (short 0 (pos 4)) (framed AtMost (limit (pos 4)) (band 0 (pos 4) (pos 1) ∷ [])) (here (pos 1) (pos 4) (pos 5) (pos 2) ∷ moving 1 (pos 0) (pos 6) (pos 1) (pos 1) ∷ [])
+    ∷ has_none (framed AtMost (limit (pos 4)) (band 0 (pos 4) (pos 1) ∷ [])) (here (pos 1) (pos 4) (pos 5) (pos 2) ∷ moving 1 (pos 0) (pos 6) (pos 1) (pos 1) ∷ [])
     -- a need that only a band causes: A is sure on days 3 to 5 at level 0, and limit 2 on day 4 alone asks for B there
     ∷ stays (framed AtLeast (limit (pos 0)) []) need_before
     ∷ banded need_frame need_before (done 2 need_after)
     -- a bare day in a band is not checked
     ∷ stays (framed AtLeast (limit (pos 0)) (band 0 (pos 3) (pos 9) ∷ band 0 (pos 5) (pos 0) ∷ [])) (here (pos 1) (pos 2) (pos 3) (pos 0) ∷ here (pos 5) (pos 1) (pos 6) (pos 0) ∷ [])
-    -- the same limit once more changes nothing; of the bands that have begun the last counts: limit 2 stands on day 2 alone
+    -- the same limit once more changes nothing; of the bands that have begun the last counts
     ∷ stays (framed AtLeast (limit (pos 1)) (band 0 (pos 2) (pos 1) ∷ band 0 (pos 3) (pos 1) ∷ [])) (here (pos 1) (pos 3) (pos 4) (pos 1) ∷ [])
-    ∷ has_none (short 0 (pos 2)) (framed AtLeast (limit (pos 1)) (band 0 (pos 2) (pos 2) ∷ band 0 (pos 3) (pos 1) ∷ [])) (here (pos 1) (pos 3) (pos 4) (pos 1) ∷ [])
-    -- the ends: from the first day there is, a band hides the resource's own limit for good; from the second, limit 9 stands on the first
+    ∷ has_none (framed AtLeast (limit (pos 1)) (band 0 (pos 2) (pos 2) ∷ band 0 (pos 3) (pos 1) ∷ [])) (here (pos 1) (pos 3) (pos 4) (pos 1) ∷ [])
+    -- the ends: from the first day there is, a band hides the resource's own limit for good
     ∷ stays (framed AtLeast (limit (pos 9)) (band 0 (negsuc 99999) (negsuc 999999) ∷ [])) (here (negsuc 99999) (pos 1) (negsuc 99998) (negsuc 999999) ∷ [])
-    ∷ has_none (short 0 (negsuc 99999)) (framed AtLeast (limit (pos 9)) (band 0 (negsuc 99998) (negsuc 999999) ∷ [])) (here (negsuc 99999) (pos 1) (negsuc 99998) (negsuc 999999) ∷ [])
+    ∷ has_none (framed AtLeast (limit (pos 9)) (band 0 (negsuc 99998) (negsuc 999999) ∷ [])) (here (negsuc 99999) (pos 1) (negsuc 99998) (negsuc 999999) ∷ [])
     -- 13, the first such band: equal neighbours, unsorted places, a day and a limit beyond their ends, a place that no resource has
     ∷ banded (framed AtLeast (limit (pos 0)) (band 0 (pos 3) (pos 1) ∷ band 0 (pos 3) (pos 2) ∷ [])) [] (refused (BandOutside 1) [])
     ∷ banded (framed AtLeast (two (pos 0) (pos 0)) (band 1 (pos 3) (pos 1) ∷ band 0 (pos 4) (pos 2) ∷ [])) [] (refused (BandOutside 1) [])
@@ -126,7 +120,7 @@ band_cases =
     ∷ stays (framed AtLeast (limit (pos 0)) (band 0 (pos 5) (pos 9) ∷ [])) (here (pos 5) (pos 0) (pos 5) (negsuc 0) ∷ [])
     -- the 64th counts: limit 7 from day 63 on
     ∷ stays (framed AtLeast (limit (pos 0)) full) (here (pos 63) (pos 1) (pos 64) (pos 7) ∷ [])
-    ∷ has_none (short 0 (pos 63)) (framed AtLeast (limit (pos 0)) full) (here (pos 63) (pos 1) (pos 64) (pos 6) ∷ [])
+    ∷ has_none (framed AtLeast (limit (pos 0)) full) (here (pos 63) (pos 1) (pos 64) (pos 6) ∷ [])
     -- a 65th is refused, unless an earlier one is
     ∷ banded (framed AtLeast (limit (pos 0)) (full ++ band 0 (pos 64) (pos 0) ∷ [])) [] (refused (BandOutside most_bands) [])
     ∷ banded (framed AtLeast (limit (pos 0)) (daily 0 3 ++ daily 2 62)) [] (refused (BandOutside 3) [])

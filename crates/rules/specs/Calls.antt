@@ -113,13 +113,13 @@ abbrev pub unless_refused : Checked → List Task → Result → Result
 unless_refused Checked.Accepted ts x = x
 unless_refused (Checked.Refused f) ts x = refused f ts
 
--- 7: "a step finds no plan", with the first reason
+-- 7: "a step finds no plan"
 abbrev pub stepped : List Task → Outcome → Result
-stepped ts (Outcome.NoPlan e) = refused (NoPlan e) ts
+stepped ts Outcome.NoPlan = refused NoPlan ts
 stepped ts (Outcome.Plan us) = done 0 us
 
 abbrev pub settled : List Task → Settled → Result
-settled ts (Settled.Refused e) = refused (NoPlan e) ts
+settled ts Settled.Refused = refused NoPlan ts
 settled ts (Settled.After n us) = done n us
 settled ts (Settled.Unsettled us) = done 0 us
 

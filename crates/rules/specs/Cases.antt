@@ -6,14 +6,11 @@ use Rattle.plan.specs.declared.Resource.{Resource}
 use Rattle.plan.specs.declared.Kind.TheVariants.{Plain}
 use Rattle.plan.specs.declared.Sense.{Sense}
 use Rattle.plan.specs.declared.Sense.TheVariants.{AtMost, AtLeast}
-use Rattle.plan.specs.declared.Value.TheVariants.{Origin}
-use Rattle.plan.specs.declared.Reason.{Reason}
 use Rattle.plan.specs.declared.Call.{Call}
 use Rattle.plan.specs.declared.Call.TheVariants.{Check, Balance, Step, Pass, Settle}
 use Rattle.plan.specs.declared.Refusal.TheVariants.{TooManyTasks, ResourceCount, RepeatedIdentifier, LimitOutside, RangeOutside, SetOutside, NoPlan}
 use Rattle.plan.specs.Days.{span_of}
 use Rattle.plan.specs.Powers.{power, power_span_of}
-use Rattle.plan.specs.Refusals.{short, emptied}
 use Rattle.rules.specs.Frame.{Frame, unbanded}
 use Rattle.rules.specs.Calls.{Result, done, refused}
 
@@ -44,9 +41,8 @@ limit l = resource (pos 7) l ∷ []
 abbrev settles : Sense → List Resource → List Task → ℕ → List Task → Case
 settles s qs ts n us = record { call = Settle; frame = unbanded s qs; tasks = ts; result = done n us }
 
--- no plan, for such a reason
-abbrev has_none : Reason → Sense → List Resource → List Task → Case
-has_none e s qs ts = record { call = Settle; frame = unbanded s qs; tasks = ts; result = refused (NoPlan e) ts }
+abbrev has_none : Sense → List Resource → List Task → Case
+has_none s qs ts = record { call = Settle; frame = unbanded s qs; tasks = ts; result = refused NoPlan ts }
 
 -- ---- the page's cases
 abbrev case_a : Task
@@ -81,17 +77,17 @@ abbrev pub page_cases : List Case
 page_cases =
     -- 1: no task, limit 3: settled, 1 pass
     settles AtLeast (limit (pos 3)) [] 1 []
-    -- 2: 5/1/6/-1, limit 0: refusal 7, for day 5 is at level -1; height 0: settled, 1 pass
-    ∷ has_none (short 0 (pos 5)) AtLeast (limit (pos 0)) (here (pos 5) (pos 1) (pos 6) (negsuc 0) ∷ [])
+    -- 2: 5/1/6/-1, limit 0: refusal 7; height 0: settled, 1 pass
+    ∷ has_none AtLeast (limit (pos 0)) (here (pos 5) (pos 1) (pos 6) (negsuc 0) ∷ [])
     ∷ settles AtLeast (limit (pos 0)) (here (pos 5) (pos 1) (pos 6) (pos 0) ∷ []) 1 (here (pos 5) (pos 1) (pos 6) (pos 0) ∷ [])
     -- 3: 5/0/5/-1, limit 0: settled, 1 pass (covers no day)
     ∷ settles AtLeast (limit (pos 0)) (here (pos 5) (pos 0) (pos 5) (negsuc 0) ∷ []) 1 (here (pos 5) (pos 0) (pos 5) (negsuc 0) ∷ [])
-    -- 4: 5/1/7/0, limit 0: refusal 7, for balance cuts the origin to 7 - 1 and leaves none
-    ∷ has_none (emptied 0 Origin) AtLeast (limit (pos 0)) (here (pos 5) (pos 1) (pos 7) (pos 0) ∷ [])
-    -- 5: at most 4, two tasks 1/1/2, heights 2 and 2: settled; 2 and 3: refusal 7, for day 1 is at level 5
+    -- 4: 5/1/7/0, limit 0: refusal 7
+    ∷ has_none AtLeast (limit (pos 0)) (here (pos 5) (pos 1) (pos 7) (pos 0) ∷ [])
+    -- 5: at most 4, two tasks 1/1/2, heights 2 and 2: settled; 2 and 3: refusal 7
     ∷ settles AtMost (limit (pos 4)) (here (pos 1) (pos 1) (pos 2) (pos 2) ∷ here (pos 1) (pos 1) (pos 2) (pos 2) ∷ []) 1
     (here (pos 1) (pos 1) (pos 2) (pos 2) ∷ here (pos 1) (pos 1) (pos 2) (pos 2) ∷ [])
-    ∷ has_none (short 0 (pos 1)) AtMost (limit (pos 4)) (here (pos 1) (pos 1) (pos 2) (pos 2) ∷ here (pos 1) (pos 1) (pos 2) (pos 3) ∷ [])
+    ∷ has_none AtMost (limit (pos 4)) (here (pos 1) (pos 1) (pos 2) (pos 2) ∷ here (pos 1) (pos 1) (pos 2) (pos 3) ∷ [])
     -- 6: limit 2, tasks 1/2/3/2 and 5/2/7/2: settled; days 3 and 4 are bare
     ∷ settles AtLeast (limit (pos 2)) (here (pos 1) (pos 2) (pos 3) (pos 2) ∷ here (pos 5) (pos 2) (pos 7) (pos 2) ∷ []) 1
     (here (pos 1) (pos 2) (pos 3) (pos 2) ∷ here (pos 5) (pos 2) (pos 7) (pos 2) ∷ [])
@@ -123,7 +119,7 @@ case9_calls =
     ∷ record { call = Pass; frame = case9_frame; tasks = case9_before; result = done 0 case9_stepped }
     ∷ []
 
-abbrev pub needs_first_others : List Task
+abbrev needs_first_others : List Task
 needs_first_others =
     task 1 (range (pos 0) (pos 3)) (one (pos 1)) (range (pos 1) (pos 4)) (one (pos 2))
     ∷ task 1 (range (pos 5) (pos 6)) (one (pos 2)) (range (pos 7) (pos 8)) (one (pos 1)) ∷ []
@@ -147,13 +143,13 @@ own_cases =
     -- two jobs back to back do not clash
     ∷ settles AtMost (limit (pos 2)) (here (pos 1) (pos 1) (pos 2) (pos 2) ∷ here (pos 2) (pos 1) (pos 3) (pos 2) ∷ []) 1
     (here (pos 1) (pos 1) (pos 2) (pos 2) ∷ here (pos 2) (pos 1) (pos 3) (pos 2) ∷ [])
-    -- a day is barred with no task sure there: every day is too high for the one job, so no origin is left
-    ∷ has_none (emptied 0 Origin) AtMost (limit (pos 1)) (task 1 (range (pos 0) (pos 3)) (one (pos 1)) (range (pos 1) (pos 4)) (one (pos 2)) ∷ [])
+    -- a day is barred with no task sure there: every day is too high for the one job
+    ∷ has_none AtMost (limit (pos 1)) (task 1 (range (pos 0) (pos 3)) (one (pos 1)) (range (pos 1) (pos 4)) (one (pos 2)) ∷ [])
     -- unbalanced: the end follows from origin and duration, which may be 0
     ∷ settles AtLeast (limit (pos 0)) (task 1 (one (pos 5)) (range (pos 0) (pos 2)) (range (pos 5) (pos 9)) (one (pos 0)) ∷ []) 2
     (task 1 (one (pos 5)) (range (pos 0) (pos 2)) (range (pos 5) (pos 7)) (one (pos 0)) ∷ [])
-    -- balance alone finds no plan: the origin would be 3 - 5
-    ∷ has_none (emptied 0 Origin) AtMost (limit (pos 9)) (here (pos 0) (pos 5) (pos 3) (pos 1) ∷ [])
+    -- balance alone finds no plan
+    ∷ has_none AtMost (limit (pos 9)) (here (pos 0) (pos 5) (pos 3) (pos 1) ∷ [])
     -- height: B has to bring what A lacks
     ∷ settles AtLeast (limit (pos 3)) (here (pos 0) (pos 1) (pos 1) (pos 1) ∷ task 1 (one (pos 0)) (one (pos 1)) (one (pos 1)) (range (pos 0) (pos 4)) ∷ []) 2
     (here (pos 0) (pos 1) (pos 1) (pos 1) ∷ task 1 (one (pos 0)) (one (pos 1)) (one (pos 1)) (range (pos 2) (pos 4)) ∷ [])
@@ -169,8 +165,8 @@ own_cases =
     -- need: A on day 1 has to be joined by B, which gets its resource, its days and its height
     ∷ settles AtLeast (two (pos 2) (pos 0)) (here (pos 1) (pos 1) (pos 2) (pos 1) ∷ task 3 (range (pos 0) (pos 3)) (one (pos 1)) (range (pos 1) (pos 4)) (range (pos 0) (pos 1)) ∷ []) 3
     (here (pos 1) (pos 1) (pos 2) (pos 1) ∷ task 1 (one (pos 1)) (one (pos 1)) (one (pos 2)) (one (pos 1)) ∷ [])
-    -- barred from one resource, short on the other, on day 0
-    ∷ has_none (short 1 (pos 0)) AtLeast (two (pos 5) (pos 5)) (either (pos 0) (pos 1) (pos 1) (pos 1) ∷ [])
+    -- barred from one resource, short on the other
+    ∷ has_none AtLeast (two (pos 5) (pos 5)) (either (pos 0) (pos 1) (pos 1) (pos 1) ∷ [])
     -- the ends of every range
     ∷ settles AtLeast (limit (pos 1000000)) (here (pos 99999) (pos 1) (pos 100000) (pos 1000000) ∷ []) 1 (here (pos 99999) (pos 1) (pos 100000) (pos 1000000) ∷ [])
     ∷ settles AtMost (limit (negsuc 999999)) (here (negsuc 99999) (pos 1) (negsuc 99998) (negsuc 999999) ∷ []) 1 (here (negsuc 99999) (pos 1) (negsuc 99998) (negsuc 999999) ∷ [])

@@ -1,6 +1,5 @@
--- A plan that leaves one choice: every range has one value and every set one resource; and whether a step gives a plan, whatever the reason where it
--- gives none.
-use Rattle.std.specs.Prelude.{◌^◌, Bool, List, eqb}
+-- A plan that leaves one choice: every range has one value and every set one resource.
+use Rattle.std.specs.Prelude.{◌^◌, Bool, eqb}
 use Rattle.integers.specs.Whole.{eq_z}
 use Rattle.integers.specs.Tests.{and}
 use Rattle.integers.specs.Hull.{range}
@@ -9,8 +8,6 @@ use Rattle.plan.specs.Days.{span_of}
 use Rattle.plan.specs.Powers.{power_span_of}
 use Rattle.plan.specs.Sets.{set_bits, size}
 use Rattle.rules.specs.Allowed.{Choice}
-use Rattle.rules.specs.Balance.{Outcome}
-use Rattle.rules.specs.Balance.Outcome.{NoPlan, Plan}
 
 -- the task that leaves this choice alone
 abbrev pub fixed : Choice → Task
@@ -31,12 +28,3 @@ one_value t =
 
 unfoldable pub one_resource : Task → Bool
 one_resource t = eqb (size set_bits t.set) 1
-
--- "a full pass says 'no plan' exactly when that one choice breaks a rule": the plan that is left, or none
-pub data Found : Type 0 where
-  None : Found
-  Some : List Task → Found
-
-abbrev pub plan_in : Outcome → Found
-plan_in (NoPlan e) = None
-plan_in (Plan ts) = Some ts

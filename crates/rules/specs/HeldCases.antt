@@ -7,7 +7,6 @@ use Rattle.plan.specs.declared.Kind.TheVariants.{Held}
 use Rattle.plan.specs.declared.Sense.TheVariants.{AtMost, AtLeast}
 use Rattle.plan.specs.declared.Call.TheVariants.{Step}
 use Rattle.plan.specs.Powers.{power}
-use Rattle.plan.specs.Refusals.{short}
 use Rattle.rules.specs.Frame.{Frame, framed, unbanded}
 use Rattle.rules.specs.Calls.{done}
 use Rattle.rules.specs.Cases.{Case, one, task, here, resource, limit, case7_before, case7_after}
@@ -17,10 +16,10 @@ use Rattle.rules.specs.BandCases.{band, banded, moving, stays, has_none}
 abbrev held_resource : ℤ → ℤ → Resource
 held_resource i l = record { id = i; limit = power l; kind = Held }
 
-abbrev pub held : ℤ → List Resource
+abbrev held : ℤ → List Resource
 held l = held_resource (pos 7) l ∷ []
 
-abbrev pub at_least_held : ℤ → Frame
+abbrev at_least_held : ℤ → Frame
 at_least_held l = unbanded AtLeast (held l)
 
 -- case 6's tasks: "days 3 and 4 are bare"
@@ -62,20 +61,19 @@ held_after = bridged 1 (range (pos 2) (pos 3))
 abbrev pub held_cases : List Case
 held_cases =
     -- "Case 6 on a held resource is refusal 7": days 3 and 4 are at level 0; at limit 0 they meet it
-    has_none (short 0 (pos 3)) (at_least_held (pos 2)) bare_between
+    has_none (at_least_held (pos 2)) bare_between
     ∷ stays (at_least_held (pos 0)) bare_between
-    -- two tasks of duration 0: days 0 to 3 lie between them, at level 0, and day 4 does not; limit 1 stands on all four, then on day 3 of them,
-    -- then on day 0
-    ∷ has_none (short 0 (pos 0)) short_frame short_tasks
+    -- two tasks of duration 0: days 0 to 3 lie between them, at level 0, and day 4 does not
+    ∷ has_none short_frame short_tasks
     ∷ stays (at_least_held (pos 0)) short_tasks
-    ∷ has_none (short 0 (pos 3)) (framed AtLeast (held (pos 0)) (band 0 (pos 3) (pos 1) ∷ [])) short_tasks
+    ∷ has_none (framed AtLeast (held (pos 0)) (band 0 (pos 3) (pos 1) ∷ [])) short_tasks
     ∷ stays (framed AtLeast (held (pos 0)) (band 0 (pos 4) (pos 1) ∷ [])) short_tasks
-    ∷ has_none (short 0 (pos 0)) (framed AtLeast (held (pos 1)) (band 0 (pos 1) (pos 0) ∷ [])) short_tasks
+    ∷ has_none (framed AtLeast (held (pos 1)) (band 0 (pos 1) (pos 0) ∷ [])) short_tasks
     ∷ stays (framed AtLeast (held (pos 1)) (band 0 (pos 0) (pos 0) ∷ [])) short_tasks
     -- one of duration 0 alone: from day 5 to day 4 there is none
     ∷ stays (at_least_held (pos 1)) (here (pos 5) (pos 0) (pos 5) (negsuc 0) ∷ [])
     -- one of duration 0 and one that covers day 7: days 5 and 6 are at level 0, and no task is possible there
-    ∷ has_none (short 0 (pos 5)) (at_least_held (pos 1)) (here (pos 5) (pos 0) (pos 5) (pos 0) ∷ here (pos 7) (pos 1) (pos 8) (pos 1) ∷ [])
+    ∷ has_none (at_least_held (pos 1)) (here (pos 5) (pos 0) (pos 5) (pos 0) ∷ here (pos 7) (pos 1) (pos 8) (pos 1) ∷ [])
     ∷ stays (at_least_held (pos 1)) (here (pos 7) (pos 0) (pos 7) (pos 0) ∷ here (pos 7) (pos 1) (pos 8) (pos 1) ∷ [])
     -- no task: nothing is checked
     ∷ stays (at_least_held (pos 9)) []
@@ -85,15 +83,15 @@ held_cases =
     -- which day is first is open: the first task starts on day 3 at the latest, so day 3 counts and days 1 and 2 do not; so is the last: it ends on
     -- day 2 at the earliest, so days 0 and 1 count; of an open duration too
     ∷ stays (framed AtLeast (held (pos 1)) (band 0 (pos 3) (pos 0) ∷ [])) (moving 1 (pos 1) (pos 3) (pos 0) (pos 0) ∷ here (pos 5) (pos 0) (pos 5) (pos 0) ∷ [])
-    ∷ has_none (short 0 (pos 3)) (framed AtLeast (held (pos 0)) (band 0 (pos 3) (pos 1) ∷ band 0 (pos 4) (pos 0) ∷ [])) (moving 1 (pos 1) (pos 3) (pos 0) (pos 0) ∷ here (pos 5) (pos 0) (pos 5) (pos 0) ∷ [])
-    ∷ has_none (short 0 (pos 0)) (at_least_held (pos 1)) (here (pos 0) (pos 0) (pos 0) (pos 0) ∷ moving 1 (pos 2) (pos 4) (pos 0) (pos 0) ∷ [])
+    ∷ has_none (framed AtLeast (held (pos 0)) (band 0 (pos 3) (pos 1) ∷ band 0 (pos 4) (pos 0) ∷ [])) (moving 1 (pos 1) (pos 3) (pos 0) (pos 0) ∷ here (pos 5) (pos 0) (pos 5) (pos 0) ∷ [])
+    ∷ has_none (at_least_held (pos 1)) (here (pos 0) (pos 0) (pos 0) (pos 0) ∷ moving 1 (pos 2) (pos 4) (pos 0) (pos 0) ∷ [])
     ∷ stays (framed AtLeast (held (pos 0)) (band 0 (pos 2) (pos 1) ∷ [])) (here (pos 0) (pos 0) (pos 0) (pos 0) ∷ moving 1 (pos 2) (pos 4) (pos 0) (pos 0) ∷ [])
-    ∷ has_none (short 0 (pos 0)) (at_least_held (pos 1)) (here (pos 0) (pos 0) (pos 0) (pos 0) ∷ task 1 (range (pos 2) (pos 4)) (range (pos 0) (pos 2)) (range (pos 2) (pos 6)) (one (pos 0)) ∷ [])
-    -- negative days: from -4 to -1 between two tasks of duration 0; with limit 1 from day -1 on, that day falls short
-    ∷ has_none (short 0 (negsuc 0)) (framed AtLeast (held (pos 0)) (band 0 (negsuc 0) (pos 1) ∷ [])) (here (negsuc 3) (pos 0) (negsuc 3) (pos 0) ∷ here (pos 0) (pos 0) (pos 0) (pos 0) ∷ [])
+    ∷ has_none (at_least_held (pos 1)) (here (pos 0) (pos 0) (pos 0) (pos 0) ∷ task 1 (range (pos 2) (pos 4)) (range (pos 0) (pos 2)) (range (pos 2) (pos 6)) (one (pos 0)) ∷ [])
+    -- negative days: from -4 to -1 between two tasks of duration 0
+    ∷ has_none (framed AtLeast (held (pos 0)) (band 0 (negsuc 0) (pos 1) ∷ [])) (here (negsuc 3) (pos 0) (negsuc 3) (pos 0) ∷ here (pos 0) (pos 0) (pos 0) (pos 0) ∷ [])
     ∷ stays (framed AtLeast (held (pos 1)) (band 0 (negsuc 3) (pos 0) ∷ [])) (here (negsuc 3) (pos 0) (negsuc 3) (pos 0) ∷ here (pos 0) (pos 0) (pos 0) (pos 0) ∷ [])
-    -- a plain one and a held one: case 6's tasks on the second, where day 3 falls short
-    ∷ has_none (short 1 (pos 3)) (unbanded AtLeast (resource (pos 9) (pos 0) ∷ held (pos 2))) secondly
+    -- a plain one and a held one: case 6's tasks on the second
+    ∷ has_none (unbanded AtLeast (resource (pos 9) (pos 0) ∷ held (pos 2))) secondly
     ∷ stays (unbanded AtLeast (held (pos 2) ++ resource (pos 9) (pos 2) ∷ [])) secondly
     -- "The rules for bar and height stay": case 7 on a held resource; day 0, say, does not count, and is barred for B
     ∷ banded (at_least_held (pos 0)) case7_before (done 2 case7_after)
@@ -103,11 +101,11 @@ held_cases =
     ∷ record { call = Step 0; frame = held_frame; tasks = held_before; result = done 0 (bridged 1 (range (pos 1) (pos 3))) }
     ∷ banded (unbanded AtLeast (held (pos 2) ++ resource (pos 9) (pos 0) ∷ [])) (bridging 3) (done 3 (bridged 1 (range (pos 2) (pos 3))))
     ∷ stays (unbanded AtLeast (limit (pos 2))) held_before
-    -- at most: level 0 on the bare days 2 and 3 is above limit -1; with limit 0 it is not
-    ∷ has_none (short 0 (pos 2)) (unbanded AtMost (held (negsuc 0))) (here (pos 1) (pos 1) (pos 2) (negsuc 0) ∷ here (pos 4) (pos 1) (pos 5) (negsuc 0) ∷ [])
+    -- at most: level 0 on the bare days is above limit -1; with limit 0 it is not
+    ∷ has_none (unbanded AtMost (held (negsuc 0))) (here (pos 1) (pos 1) (pos 2) (negsuc 0) ∷ here (pos 4) (pos 1) (pos 5) (negsuc 0) ∷ [])
     ∷ stays (unbanded AtMost (held (pos 0))) (here (pos 1) (pos 1) (pos 2) (negsuc 0) ∷ here (pos 4) (pos 1) (pos 5) (negsuc 0) ∷ [])
     ∷ stays (unbanded AtMost (limit (negsuc 0))) (here (pos 1) (pos 1) (pos 2) (negsuc 0) ∷ here (pos 4) (pos 1) (pos 5) (negsuc 0) ∷ [])
     -- with bands: the bare days 3 and 4 meet limit 0 of the band between; where limit 2 stands again from day 4 on, day 4 falls short
     ∷ stays (framed AtLeast (held (pos 2)) (band 0 (pos 3) (pos 0) ∷ band 0 (pos 5) (pos 2) ∷ [])) bare_between
-    ∷ has_none (short 0 (pos 4)) (framed AtLeast (held (pos 2)) (band 0 (pos 3) (pos 0) ∷ band 0 (pos 4) (pos 2) ∷ [])) bare_between
+    ∷ has_none (framed AtLeast (held (pos 2)) (band 0 (pos 3) (pos 0) ∷ band 0 (pos 4) (pos 2) ∷ [])) bare_between
     ∷ []

@@ -6,7 +6,6 @@ pub mod Balance
 pub mod Step
 pub mod Settle
 pub mod Moves
-pub mod Reasons
 pub mod Fixed
 pub mod Calls
 pub mod Again
@@ -17,4 +16,3 @@ pub mod Cases
 pub mod BandCases
 pub mod HeldCases
 pub mod PassCases
-pub mod ReasonCases

@@ -26,7 +26,7 @@ negated_frame f = record { sense = opposite f.sense; resources = map negated_res
 
 -- what settling or a call leaves, negated
 abbrev pub negated_settled : Settled → Settled
-negated_settled (Settled.Refused e) = Settled.Refused e
+negated_settled Settled.Refused = Settled.Refused
 negated_settled (Settled.After n ts) = Settled.After n (map negated ts)
 negated_settled (Settled.Unsettled ts) = Settled.Unsettled (map negated ts)
 

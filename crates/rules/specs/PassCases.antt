@@ -7,7 +7,6 @@ use Rattle.plan.specs.declared.Call.TheVariants.{Settle, Within, MostPasses}
 use Rattle.plan.specs.declared.Refusal.TheVariants.{RangeOutside, SetOutside, NoPlan, BandOutside}
 use Rattle.plan.specs.Days.{day}
 use Rattle.plan.specs.Powers.{power}
-use Rattle.plan.specs.Refusals.{short}
 use Rattle.rules.specs.Frame.{Frame, unbanded, framed}
 use Rattle.rules.specs.Calls.{Result, done, refused}
 use Rattle.rules.specs.Cases.{Case, one, task, here, resource, limit, case9_frame, case9_before, case9_stepped, case9_after}
@@ -32,10 +31,10 @@ on_day5 s h = task s (one (pos 5)) (one (pos 1)) (one (pos 6)) (one (pos h))
 
 -- limits 1 and 2, a sure task of height 0 on each, and two of height 1 that may go to either. The first resource could do without the one or the
 -- other; the second needs both, and gets them in the first pass; in the second pass nothing lifts the sure task on the first
-abbrev pub late_frame : Frame
+abbrev late_frame : Frame
 late_frame = unbanded AtLeast (resource (pos 1) (pos 1) ∷ resource (pos 2) (pos 2) ∷ [])
 
-abbrev pub late : ℕ → List Task
+abbrev late : ℕ → List Task
 late s = on_day5 1 0 ∷ on_day5 2 0 ∷ on_day5 s 1 ∷ on_day5 s 1 ∷ []
 
 -- limits 0, 1 and 1, and two helpers that may lift a resource or the next: the last resource needs its only helper, then the one before it the
@@ -86,11 +85,11 @@ pass_cases =
     ∷ makes 21 case9_frame case9_before (done 3 case9_after)
     -- on from what two left, one pass more says that it is settled
     ∷ makes 1 case9_frame case9_after (done 1 case9_after)
-    -- no plan is found where the pass that finds it is made: level -1 on day 5 in the first; in the second, level 0 on the first resource's day 5
+    -- no plan is found where the pass that finds it is made
     ∷ makes 0 feeder (here (pos 5) (pos 1) (pos 6) (negsuc 0) ∷ []) (done 0 (here (pos 5) (pos 1) (pos 6) (negsuc 0) ∷ []))
-    ∷ makes 1 feeder (here (pos 5) (pos 1) (pos 6) (negsuc 0) ∷ []) (refused (NoPlan (short 0 (pos 5))) (here (pos 5) (pos 1) (pos 6) (negsuc 0) ∷ []))
+    ∷ makes 1 feeder (here (pos 5) (pos 1) (pos 6) (negsuc 0) ∷ []) (refused NoPlan (here (pos 5) (pos 1) (pos 6) (negsuc 0) ∷ []))
     ∷ makes 1 late_frame (late 3) (done 0 (late 2))
-    ∷ makes 2 late_frame (late 3) (refused (NoPlan (short 0 (pos 5))) (late 3))
+    ∷ makes 2 late_frame (late 3) (refused NoPlan (late 3))
     ∷ at_most late_frame (late 3) 3
     -- the bound is reached
     ∷ at_most chain_frame (chain 3 6) 3

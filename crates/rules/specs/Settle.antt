@@ -3,7 +3,6 @@ use Rattle.std.specs.Prelude.{ℕ, zero, suc, ◌+◌, ◌-◌, List, [], ◌∷
 use Rattle.integers.specs.Tests.{if, and}
 use Rattle.integers.specs.Hull.{same_range, width}
 use Rattle.plan.specs.declared.Task.{Task}
-use Rattle.plan.specs.declared.Reason.{Reason}
 use Rattle.plan.specs.Days.{days_of}
 use Rattle.plan.specs.Powers.{powers_of}
 use Rattle.plan.specs.Sets.{set_bits, size}
@@ -12,9 +11,9 @@ use Rattle.rules.specs.Balance.{Outcome, balance}
 use Rattle.rules.specs.Balance.Outcome.{NoPlan, Plan}
 use Rattle.rules.specs.Step.{resource_step}
 
--- a step on what the one before left; "the first reason in the order of the steps"
+-- a step on what the one before left
 abbrev pub then : Outcome → (List Task → Outcome) → Outcome
-then (NoPlan e) k = NoPlan e
+then NoPlan k = NoPlan
 then (Plan ts) k = k ts
 
 -- the resource step for each of these places, in their order
@@ -41,20 +40,20 @@ same_tasks [] (u ∷ us) = false
 same_tasks (t ∷ ts) [] = false
 same_tasks (t ∷ ts) (u ∷ us) = and (same_task t u) (same_tasks ts us)
 
--- no plan, and why; or settled after so many passes; or, where so many passes were too few to settle, what they left
+-- settled after so many passes, or no plan; or, where so many passes were too few to settle, what they left
 pub data Settled : Type 0 where
-  Refused : Reason → Settled
+  Refused : Settled
   After : ℕ → List Task → Settled
   Unsettled : List Task → Settled
 
 -- "The pass count includes that last one"
 abbrev pub one_pass_more : Settled → Settled
-one_pass_more (Refused e) = Refused e
+one_pass_more Refused = Refused
 one_pass_more (After n ts) = After (suc n) ts
 one_pass_more (Unsettled ts) = Unsettled ts
 
 abbrev pub unless_same : (List Task → Settled) → List Task → Outcome → Settled
-unless_same k ts (NoPlan e) = Refused e
+unless_same k ts NoPlan = Refused
 unless_same k ts (Plan us) = if (same_tasks ts us) (After 1 us) (one_pass_more (k us))
 
 -- at most n passes

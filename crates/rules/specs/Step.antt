@@ -5,7 +5,7 @@ use Rattle.integers.specs.Whole.{larger}
 use Rattle.integers.specs.Tests.{if, and, implies, all, any}
 use Rattle.integers.specs.Sums.{sum_of}
 use Rattle.integers.specs.Least.{least_of, greatest_of}
-use Rattle.integers.specs.Hull.{Range, range, within, values, first_of, Left, left}
+use Rattle.integers.specs.Hull.{Range, range, within, values, Left, left}
 use Rattle.integers.specs.Hull.Left.{Nothing, Some}
 use Rattle.plan.specs.declared.Task.{Task}
 use Rattle.plan.specs.declared.Sense.{Sense}
@@ -16,14 +16,12 @@ use Rattle.plan.specs.declared.Narrowed.{Narrowed}
 use Rattle.plan.specs.declared.Narrowed.TheVariants.{Kept, RanOut}
 use Rattle.plan.specs.Days.{days_of, span_of}
 use Rattle.plan.specs.Powers.{powers_of, power_span_of, negated_powers}
-use Rattle.plan.specs.Refusals.{short}
 use Rattle.plan.specs.Sets.{has, only, without}
 use Rattle.rules.specs.Frame.{Frame, Floor, floor_at}
 use Rattle.rules.specs.Balance.{Outcome, each}
 use Rattle.rules.specs.Balance.Outcome.{NoPlan, Plan}
 
--- "an origin or end range runs from its smallest to its largest value left"; "A set or range left empty means no plan": that value ran out, of a task
--- the first in "origin, duration, end, height, resource set"
+-- "an origin or end range runs from its smallest to its largest value left"; "A set or range left empty means no plan": that value ran out
 abbrev pub or_ran_out : Value → Left → (Range → Narrowed) → Narrowed
 or_ran_out v Nothing k = RanOut v
 or_ran_out v (Some s) k = k s
@@ -148,18 +146,17 @@ unfoldable pub listed_days : List Task → List ℤ
 listed_days [] = []
 listed_days (t ∷ ts) = values (range (least_of first_day (first_day t) ts) (greatest_of last_end (last_end t) ts))
 
--- the step for sense at least: "Inside a resource step shortfalls come before emptied values, earliest day first, then tasks in list order"
+-- the step for sense at least
 unfoldable pub at_least_step : ℕ → Floor → List Task → Outcome
 at_least_step r limit ts =
-    if (any (shortfall r limit ts) (listed_days ts)) (NoPlan (short r (first_of (shortfall r limit ts) (listed_days ts))))
-    (each (narrowed r limit ts (listed_days ts)) ts)
+    if (any (shortfall r limit ts) (listed_days ts)) NoPlan (each (narrowed r limit ts (listed_days ts)) ts)
 
 -- "Sense at most is the same with every height and limit negated and each height's two ends swapped"
 unfoldable pub negated : Task → Task
 negated t = record { set = t.set; origin = t.origin; duration = t.duration; end = t.end; height = negated_powers t.height }
 
 abbrev pub negated_plan : Outcome → Outcome
-negated_plan (NoPlan e) = NoPlan e
+negated_plan NoPlan = NoPlan
 negated_plan (Plan ts) = Plan (map negated ts)
 
 abbrev pub negated_floor : Floor → Floor

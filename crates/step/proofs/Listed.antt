@@ -7,7 +7,6 @@ use lib.Dec.{eqb}
 use lib.IntN.{ℤ}
 use lib.Signed.{◌≤ℤ◌, lt_z}
 use Rattle.integers.specs.Tests.{and, or, any}
-use Rattle.integers.specs.Hull.{first_of}
 use Rattle.integers.specs.Lists.{Each, In}
 use Rattle.integers.specs.Lists.In.{head, tail}
 use Rattle.integers.proofs.Z.{z}
@@ -16,7 +15,6 @@ use Rattle.integers.proofs.Lists.{any_place, each_in}
 use Rattle.plan.specs.declared.Task.{Task}
 use Rattle.plan.specs.declared.Narrowed.{Narrowed}
 use Rattle.plan.specs.declared.Narrowed.TheVariants.{Kept}
-use Rattle.plan.specs.Refusals.{short}
 use Rattle.plan.specs.Sets.{has}
 use Rattle.plan.specs.Tasks.{TaskFits}
 use Rattle.rules.specs.Frame.{Floor}
@@ -105,6 +103,6 @@ pub step_enough : (r : ℕ) (limit : Floor) (ts : List Task) → any (shortfall 
 unfolding at_least_step
 step_enough r limit ts e = rw e
 
-pub step_short : (r : ℕ) (limit : Floor) (ts : List Task) → any (shortfall r limit ts) (listed_days ts) ≡ true → at_least_step r limit ts ≡ NoPlan (short r (first_of (shortfall r limit ts) (listed_days ts)))
+pub step_short : (r : ℕ) (limit : Floor) (ts : List Task) → any (shortfall r limit ts) (listed_days ts) ≡ true → at_least_step r limit ts ≡ NoPlan
 unfolding at_least_step
 step_short r limit ts e = rw e

@@ -3,7 +3,6 @@
 // that is not passed over the searches of narrow.
 ghost use Rattle.std.specs.Prelude.{◌≡◌, ◌+◌, ◌<◌, length, get_or};
 ghost use Rattle.integers.specs.Lists.{Each};
-ghost use Rattle.plan.specs.Refusals.{shortfall_on};
 ghost use Rattle.plan.specs.Sets.{set_bits};
 ghost use Rattle.plan.specs.Tasks.{no_task, Bounded, TaskFits};
 ghost use Rattle.rules.specs.Frame.{limit_from, is_held, floor};
@@ -16,7 +15,7 @@ ghost use Rattle.profile.specs.Lent.{Lent, Asks};
 ghost use Rattle.step.specs.Told.{EachByPage};
 ghost use Rattle.step.specs.Least.{lowered, Under, can_be_barred, asks_more};
 
-use plan::{Emptied, Kind, Narrowed, Power, Reason, Shortfall, Task};
+use plan::{Kind, Narrowed, Power, Task};
 use rows::{BandRow, Stepped, TaskRow};
 use stretches::{Stretch, StretchRow};
 
@@ -94,24 +93,19 @@ fn narrow_all(s: &mut [TaskRow], r: u64, ss: &[StretchRow]) -> Stepped
                 Narrowed::Kept(u) => {
                     touched = rows::put_changed(s, i, u, touched);
                 }
-                Narrowed::RanOut(value) => {
-                    return Stepped::NoPlan(Reason::Emptied(Emptied { task: i, value }));
+                Narrowed::RanOut(_) => {
+                    return Stepped {
+                        ok: false,
+                        touched: 0,
+                    };
                 }
             }
         }
         i += 1;
     }
-    Stepped::Plan(touched)
-}
-
-// "A shortfall holds resource and day": the first day of the first stretch that falls short.
-fn short_on(r: u64, t: Stretch) -> Shortfall
-    ensures { result ≡ shortfall_on r t.from.0 }
-{
-    let day = t.from;
-    Shortfall {
-        place: r as usize,
-        day,
+    Stepped {
+        ok: true,
+        touched: touched,
     }
 }
 
@@ -133,12 +127,18 @@ pub fn step(
     ensures noted { Notes result (tasks_of s.old) (tasks_of s.new) }
 {
     let p = profile::profile(s, b, r, limit, kind, keys, spare, ss);
+    if p.short {
+        return Stepped {
+            ok: false,
+            touched: 0,
+        };
+    }
     let n = p.stretches;
     if n == 0 {
-        return Stepped::Plan(0);
-    }
-    if p.short < n {
-        return Stepped::NoPlan(Reason::Short(short_on(r, stretches::stretch_at(ss, p.short))));
+        return Stepped {
+            ok: true,
+            touched: 0,
+        };
     }
     narrow_all(s, r, &ss[..n])
 }

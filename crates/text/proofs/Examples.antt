@@ -1,14 +1,11 @@
--- 0, the lowest day and the largest number of 64 bits, a task line of the page's case 9, and the lines of refusals: both reasons and a place.
+-- 0, the lowest day and the largest number of 64 bits, and a task line of the page's case 9.
 use mathlib.Core.Path.{◌≡◌, refl}
 use mathlib.Core.List.{[], ◌∷◌}
 use lib.IntN.{pos, negsuc}
 use Rattle.plan.specs.declared.Task.{Task}
-use Rattle.plan.specs.declared.Value.TheVariants.{Set}
-use Rattle.plan.specs.declared.Refusal.TheVariants.{RangeOutside, NoPlan}
 use Rattle.plan.specs.Days.{day}
 use Rattle.plan.specs.Powers.{power}
-use Rattle.plan.specs.Refusals.{short, emptied}
-use Rattle.text.specs.Text.{last_digits, digits, signed, range_text, task_line, reason_text, detail_text, refused_line}
+use Rattle.text.specs.Text.{last_digits, digits, signed, range_text, task_line}
 
 -- "0", "-100000" and "18446744073709551615"
 zero_is : digits 0 ≡ 48 ∷ []
@@ -37,18 +34,3 @@ settled =
 line_is : task_line 1 settled ≡ 49 ∷ 32 ∷ 49 ∷ 32 ∷ 49 ∷ 32 ∷ 50 ∷ 32 ∷ 50 ∷ 32 ∷ 50 ∷ 32 ∷ 51 ∷ 32 ∷ 52 ∷ 32 ∷ 51 ∷ 32 ∷ 52 ∷ 10 ∷ []
 unfolding task_line range_text signed last_digits settled
 line_is = refl
-
--- "refused 7 day 1 -3": the resource at place 1 falls short on day -3
-day_line_is : refused_line (NoPlan (short 1 (negsuc 2))) ≡ 114 ∷ 101 ∷ 102 ∷ 117 ∷ 115 ∷ 101 ∷ 100 ∷ 32 ∷ 55 ∷ 32 ∷ 100 ∷ 97 ∷ 121 ∷ 32 ∷ 49 ∷ 32 ∷ 45 ∷ 51 ∷ 10 ∷ []
-unfolding refused_line detail_text reason_text signed last_digits
-day_line_is = refl
-
--- "refused 7 task 255 4": the last of the most tasks has no resource left
-task_line_is : refused_line (NoPlan (emptied 255 Set)) ≡ 114 ∷ 101 ∷ 102 ∷ 117 ∷ 115 ∷ 101 ∷ 100 ∷ 32 ∷ 55 ∷ 32 ∷ 116 ∷ 97 ∷ 115 ∷ 107 ∷ 32 ∷ 50 ∷ 53 ∷ 53 ∷ 32 ∷ 52 ∷ 10 ∷ []
-unfolding refused_line detail_text reason_text last_digits
-task_line_is = refl
-
--- "refused 5 3"
-place_line_is : refused_line (RangeOutside 3) ≡ 114 ∷ 101 ∷ 102 ∷ 117 ∷ 115 ∷ 101 ∷ 100 ∷ 32 ∷ 53 ∷ 32 ∷ 51 ∷ 10 ∷ []
-unfolding refused_line detail_text last_digits
-place_line_is = refl

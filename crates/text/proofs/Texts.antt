@@ -1,7 +1,7 @@
 -- Texts one after another; digits one by one; the lines of tasks, half of them put.
 use mathlib.Core.Path.{◌≡◌, refl, sym, ap, subst, ◌∙◌}
 use mathlib.Core.Bool.{true, false}
-use mathlib.Core.List.{List, [], ◌∷◌, ◌++◌, append-nil, append_assoc}
+use mathlib.Core.List.{List, [], ◌∷◌, ◌++◌}
 use Prim.Native.Nat.{ℕ, suc, ◌+◌, ◌-◌, ◌*◌, ◌/◌, ◌%◌, ◌≤◌, ◌<◌}
 use native.Mathlib.Omega.{arith}
 use native.Mathlib.Nat.{add-zero}
@@ -12,11 +12,11 @@ use lib.Dec.{T, ltb}
 use borrow.Author.Tests.{lt-ltb, le-ltb}
 use Rattle.integers.specs.Hull.{Range}
 use Rattle.integers.proofs.Z.{z, -z}
-use lib.ListN.{length, get_or, take, drop, length-append, length-drop, drop_of_length-le}
-use lib.Seq.{sets, sets-eq, length-sets, take_all, take-length, drop-cons, drop-drop}
-use borrow.Rule.Slice.PartMut.{put_mid}
+use lib.ListN.{length, get_or, drop, length-append, drop_of_length-le}
+use lib.Seq.{sets, length-sets, drop-cons}
 use Rattle.plan.specs.declared.Task.{Task}
-use Rattle.format.proofs.Stores.{sets_append}
+use Rattle.format.specs.Writing.{laid}
+use Rattle.format.proofs.Stores.{sets_append, sets_laid}
 use Rattle.text.specs.Text.{Put, digit_of, minus, last_digits, digits, signed, most_signed, space, range_text, most_range, task_line, most_task_line, task_lines}
 
 -- ---- texts
@@ -34,23 +34,9 @@ put_wider h p = record { stored = p.stored; ends = p.ends; short = omega arith }
 pub put_is : {out later : List ℕ} {at past : ℕ} {a b : List ℕ} {m : ℕ} → a ≡ b → Put out at a m later past → Put out at b m later past
 put_is {out} {later} {at} {past} {a} {b} {m} e p = subst (λ (x : List ℕ). Put out at x m later past) e p
 
--- a word copied into what is left of the list from a place on
-module _ (word out : List ℕ) (at : ℕ) (h : at + length word ≤ length out) where
-  abbrev left : ℕ
-  left = length out - at
-
-  copied_is : put_mid at left out (take (length word) word ++ drop (length word) (take left (drop at out))) ≡ sets out at word
-  copied_is =
-      rw (
-        take_all left (drop at out) (omega (arith, length-drop at out)),
-        drop_of_length-le (drop at out) {i = left} (omega (arith, length-drop at out)),
-        append-nil,
-        take-length word,
-        drop-drop (length word) at out,
-      ) (sym (sets-eq word out at h ∙ append_assoc (take at out) word (drop (at + length word) out)))
-
-  pub put_copied : {part : List ℕ} {n : ℕ} → (n ≡ length word) × (part ≡ take (length word) word ++ drop (length word) (take left (drop at out))) → Put out at word (length word) (put_mid at left out part) (at + n)
-  put_copied e = record { stored = ap (put_mid at left out) e.1 ∙ copied_is; ends = omega (arith, e.0); short = omega arith }
+-- a word copied to the first places
+pub put_copied : (word out : List ℕ) {later : List ℕ} {past : ℕ} → length word ≤ length out → (past ≡ length word) × (later ≡ laid word out) → Put out 0 word (length word) later past
+put_copied word out h e = record { stored = e.1 ∙ sym (sets_laid word out h); ends = omega (arith, e.0); short = omega arith }
 
 -- ---- digits
 pub put_no_digits : (out : List ℕ) (at most n : ℕ) → most ≡ 0 → Put out at (last_digits most n) most out at

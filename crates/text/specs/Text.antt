@@ -4,14 +4,10 @@ use Rattle.std.proofs.lemmas.List.Edits.{sets}
 use Rattle.integers.specs.Hull.{Range}
 use Rattle.integers.specs.Tests.{if}
 use Rattle.plan.specs.declared.Task.{Task}
-use Rattle.plan.specs.declared.Reason.{Reason}
-use Rattle.plan.specs.declared.Reason.TheVariants.{Short, Emptied}
-use Rattle.plan.specs.declared.Detail.{Detail}
-use Rattle.plan.specs.declared.Detail.TheVariants.{Place, Because}
 use Rattle.plan.specs.declared.Refusal.{Refusal}
 use Rattle.plan.specs.Days.{days_of}
 use Rattle.plan.specs.Powers.{powers_of}
-use Rattle.plan.specs.Refusals.{number, detail, value_number}
+use Rattle.plan.specs.Refusals.{number, place}
 use Rattle.plan.specs.Tasks.{most_tasks}
 
 -- ---- numbers in ASCII
@@ -63,36 +59,20 @@ unfoldable pub task_lines : ℕ → List Task → List ℕ
 task_lines i [] = []
 task_lines i (t ∷ ts) = task_line i t ++ task_lines (suc i) ts
 
--- "settled ", "refused ", "day " and "task "
+-- "settled " and "refused "
 abbrev pub settled_word : List ℕ
 settled_word = 115 ∷ 101 ∷ 116 ∷ 116 ∷ 108 ∷ 101 ∷ 100 ∷ 32 ∷ []
 
 abbrev pub refused_word : List ℕ
 refused_word = 114 ∷ 101 ∷ 102 ∷ 117 ∷ 115 ∷ 101 ∷ 100 ∷ 32 ∷ []
 
-abbrev pub day_word : List ℕ
-day_word = 100 ∷ 97 ∷ 121 ∷ 32 ∷ []
-
-abbrev pub task_word : List ℕ
-task_word = 116 ∷ 97 ∷ 115 ∷ 107 ∷ 32 ∷ []
-
 -- "Line one: the word and the pass count."
 unfoldable pub settled_line : ℕ → List ℕ
 settled_line n = settled_word ++ (digits n ++ line_feed)
 
--- "the program's line for 7 gains `day` with resource place and day, or `task` with place and value 0 to 4 in the order above, instead of its
--- place 0"
-unfoldable pub reason_text : Reason → List ℕ
-reason_text (Short s) = day_word ++ (digits s.place ++ (space ++ signed s.day.0))
-reason_text (Emptied s) = task_word ++ (digits s.task ++ (space ++ digits (value_number s.value)))
-
-unfoldable pub detail_text : Detail → List ℕ
-detail_text (Place k) = digits k
-detail_text (Because e) = reason_text e
-
 -- "A refusal prints one line instead: `refused`, number, place, with single spaces"
 unfoldable pub refused_line : Refusal → List ℕ
-refused_line f = refused_word ++ (digits (number f) ++ (space ++ (detail_text (detail f) ++ line_feed)))
+refused_line f = refused_word ++ (digits (number f) ++ (space ++ (digits (place f) ++ line_feed)))
 
 -- ---- how long each of them is at the most
 abbrev pub most_signed : ℕ
@@ -107,12 +87,8 @@ most_task_line = 2 * (most_digits + 1) + 4 * most_range
 abbrev pub most_settled_line : ℕ
 most_settled_line = length settled_word + (most_digits + 1)
 
--- the longer of the two words, a place, and the longer of the two numbers after it; a place alone is shorter
-abbrev pub most_reason : ℕ
-most_reason = length task_word + (most_digits + (1 + most_signed))
-
 abbrev pub most_refused_line : ℕ
-most_refused_line = length refused_word + (most_digits + 1) + (most_reason + 1)
+most_refused_line = length refused_word + 2 * (most_digits + 1)
 
 -- the first line and a line for each task; a refusal's one line is shorter
 abbrev pub most_text : ℕ

@@ -3,9 +3,9 @@ ghost use Rattle.std.specs.Prelude.{◌≡◌, [], ◌∷◌, ◌++◌, ◌+◌,
 ghost use Rattle.plan.specs.Days.{days_of};
 ghost use Rattle.plan.specs.Powers.{powers_of};
 ghost use Rattle.rows.specs.View.{tasks_of};
-ghost use Rattle.text.specs.Text.{digit_of, last_digits, signed, space, range_text, task_line, task_lines, settled_line, reason_text, detail_text, refused_line, Put, most_signed, most_range, most_task_line, most_settled_line, most_reason, most_refused_line};
+ghost use Rattle.text.specs.Text.{digit_of, last_digits, signed, space, range_text, task_line, task_lines, settled_line, refused_line, Put, most_signed, most_range, most_task_line, most_settled_line, most_refused_line};
 
-use plan::{Detail, PowerSpan, Reason, Refusal, Span, Task};
+use plan::{PowerSpan, Refusal, Span, Task};
 use rows::TaskRow;
 
 // Every number of 64 bits has at most so many.
@@ -17,13 +17,6 @@ fn put_byte(out: &mut [u8], at: usize, b: u8) -> usize
 {
     out[at] = b;
     at + 1
-}
-
-fn put_word(out: &mut [u8], at: usize, word: &[u8]) -> usize
-    requires { at + length word.now ≤ length out.old }
-    ensures { Put out.old at word.now (length word.now) out.new result }
-{
-    at + bytes::copy(word, &mut out[at..])
 }
 
 fn digit(n: u64) -> u8
@@ -117,50 +110,19 @@ pub fn put_settled(out: &mut [u8], n: u64) -> usize
     requires { most_settled_line ≤ length out.old }
     ensures { Put out.old 0 (settled_line n) most_settled_line out.new result }
 {
-    let word = put_word(out, 0, b"settled ");
+    let word = bytes::copy(b"settled ", out);
     let count = put_digits(out, word, MOST_DIGITS, n);
     put_byte(out, count, b'\n')
 }
 
-// A shortfall's day may lie before day 0: it has a sign, and a value's number has none.
-fn put_reason(out: &mut [u8], at: usize, e: Reason) -> usize
-    requires { at + most_reason ≤ length out.old }
-    ensures { Put out.old at (reason_text e) most_reason out.new result }
-{
-    match e {
-        Reason::Short(s) => {
-            let word = put_word(out, at, b"day ");
-            let place = put_digits(out, word, MOST_DIGITS, s.place as u64);
-            put_spaced(out, place, s.day.0)
-        }
-        Reason::Emptied(s) => {
-            let value = s.value;
-            let word = put_word(out, at, b"task ");
-            let task = put_digits(out, word, MOST_DIGITS, s.task as u64);
-            let gap = put_byte(out, task, b' ');
-            put_digits(out, gap, MOST_DIGITS, value.number())
-        }
-    }
-}
-
-fn put_detail(out: &mut [u8], at: usize, d: Detail) -> usize
-    requires { at + most_reason ≤ length out.old }
-    ensures { Put out.old at (detail_text d) most_reason out.new result }
-{
-    match d {
-        Detail::Place(k) => put_digits(out, at, MOST_DIGITS, k as u64),
-        Detail::Because(e) => put_reason(out, at, e),
-    }
-}
-
-// The one line of a refusal: its number, and its place or the reason why there is no plan.
+// The one line of a refusal: its number and its place.
 pub fn put_refused(out: &mut [u8], f: Refusal) -> usize
     requires { most_refused_line ≤ length out.old }
     ensures { Put out.old 0 (refused_line f) most_refused_line out.new result }
 {
-    let word = put_word(out, 0, b"refused ");
+    let word = bytes::copy(b"refused ", out);
     let number = put_digits(out, word, MOST_DIGITS, f.number());
     let gap = put_byte(out, number, b' ');
-    let detail = put_detail(out, gap, f.detail());
-    put_byte(out, detail, b'\n')
+    let place = put_digits(out, gap, MOST_DIGITS, f.place() as u64);
+    put_byte(out, place, b'\n')
 }

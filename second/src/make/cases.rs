@@ -1,4 +1,4 @@
-//! Cases 1 to 9 of document 01, "Days tried on both sides", both halves of each, cases of bands, of held resources and of reasons.
+//! Cases 1 to 9 of document 01, "Days tried on both sides", both halves of each, cases of bands and of held resources.
 
 use super::parts::*;
 use crate::plan::*;
@@ -51,16 +51,6 @@ pub fn held_case(random: &mut Random, turn: u64) -> Plan {
     };
     plan.resources[0].kind = Kind::Held;
     plan
-}
-
-/// One case of a reason after another, as it is: one off, most would have none.
-pub fn reason_case(random: &mut Random, turn: u64) -> Plan {
-    let mut cases = reason_cases();
-    let case = cases.swap_remove((turn % cases.len() as u64) as usize);
-    Plan {
-        bands: case.bands,
-        ..at_least(random, &case.limits, case.tasks)
-    }
 }
 
 /// "task written origin / duration / end / height"
@@ -161,85 +151,6 @@ fn held_cases() -> Vec<BandCase> {
         with_bands(&[0, 1], &[(0, 1, 1), (0, 4, 0)], &[posts[0], barred]),
         with_bands(&[0, 1], &[(0, 4, 0)], &[posts[0], barred]),
     ]
-}
-
-/// The cases of request 5 that the tests of this program have worked out by hand.
-fn reason_cases() -> Vec<BandCase> {
-    let mut cases = short_cases();
-    cases.extend(emptied_cases());
-    cases
-}
-
-/// The reason is a day.
-fn short_cases() -> Vec<BandCase> {
-    let on = |place: usize, task: Task| Task {
-        set: Set::only(place),
-        ..task
-    };
-    let last = MOST_RESOURCES - 1;
-    let mut limits_of_all = [-9; MOST_RESOURCES];
-    limits_of_all[last] = 1;
-    let helper = wide(2, Range::single(0), 1, Range::single(1));
-    let (sure, day_5) = (written(0, 1, 1, 0), written(5, 1, 6, 0));
-    vec![
-        // the first of three days, and the one that a band picks
-        with_bands(&[1], &[], &[written(1, 3, 4, 0)]),
-        with_bands(&[0], &[(0, 3, 2), (0, 5, 0)], &[written(0, 6, 6, 1)]),
-        // the first and the last day there are
-        with_bands(&[0], &[], &[written(DAYS.low, 1, DAYS.low + 1, -1)]),
-        with_bands(&[0], &[], &[written(DAYS.high - 1, 1, DAYS.high, -1)]),
-        // two resources, the first on a later day; the last of all resources
-        with_bands(&[1, 1], &[], &[on(1, sure), day_5]),
-        with_bands(&limits_of_all, &[], &[on(last, day_5)]),
-        // a later task is short, an earlier one would be barred everywhere
-        with_bands(&[5], &[], &[moving_from(8), day_5]),
-        // in the second pass: in the first the other resource takes both helpers
-        with_bands(&[1, 2], &[], &[sure, on(1, sure), helper, helper]),
-    ]
-}
-
-/// The reason is a task's value.
-fn emptied_cases() -> Vec<BandCase> {
-    let (to, one) = (Range::new, Range::single);
-    let late = Task {
-        duration: to(1, 2),
-        end: to(2, 3),
-        ..wide(1, to(0, 2), 1, one(0))
-    };
-    let either = Task {
-        duration: to(2, 3),
-        end: to(3, 4),
-        ..wide(2, to(0, 1), 2, one(2))
-    };
-    let apart = [written(0, 1, 1, 2), written(3, 1, 4, 2), either];
-    let unfit = [
-        written(0, 1, 1, 0),
-        written(5, 1, 7, 0),
-        written(5, 1, 4, 0),
-    ];
-    let mut many = vec![written(0, 0, 0, 0); MOST_TASKS];
-    many[MOST_TASKS - 1] = written(0, 1, 0, 0);
-    vec![
-        // two tasks barred everywhere, the later one first
-        with_bands(&[5], &[], &[moving_from(4), moving_from(0)]),
-        // every end barred, an origin left
-        with_bands(&[1], &[], &[written(0, 1, 1, 2), late]),
-        // a need and a bar: the set; two needs and a bar: origin and set
-        with_bands(
-            &[3, 0],
-            &[],
-            &[written(1, 1, 2, 2), wide(2, one(0), 2, one(2))],
-        ),
-        with_bands(&[3, 0], &[], &apart),
-        // by balance: before a shortfall of the first task, and the last of all tasks
-        with_bands(&[9], &[], &unfit),
-        with_bands(&[0], &[], &many),
-    ]
-}
-
-/// A task of one day and height 0 that begins on this day or the next.
-fn moving_from(day: i64) -> Task {
-    wide(1, Range::new(day, day + 1), 1, Range::single(0))
 }
 
 /// Limits and tasks of each case, sense at least.

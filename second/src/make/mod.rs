@@ -9,7 +9,6 @@ mod held;
 mod held_damage;
 mod parts;
 mod plans;
-mod reasons;
 mod rules;
 
 use crate::file::unchecked_bytes;
@@ -31,8 +30,6 @@ const HELD_PERCENT: i64 = 20;
 /// Of the other valid plans so many in a hundred are given held resources, and of those with many tasks.
 const GIVEN_HELD_PERCENT: i64 = 22;
 const MANY_GIVEN_HELD_PERCENT: i64 = 50;
-/// Of the other valid plans but for the longest so many in a hundred are made so that a step has reasons for "no plan".
-const BROKEN_PERCENT: i64 = 10;
 
 const AT_ENDS: u64 = 15;
 const LARGE: u64 = 16;
@@ -45,7 +42,7 @@ pub const LONG_KINDS: [u64; 2] = [AT_ENDS, LARGE];
 ///
 /// What concerns bands is drawn from a source aside, so that a plan that gets none
 /// is the one that this number had before there were bands; so is what concerns
-/// resources' kinds, and what concerns reasons.
+/// resources' kinds.
 pub fn plan_file(seed: u64, n: u64) -> Vec<u8> {
     let random = &mut Random::new(seed, n);
     let (turn, kind) = (n / KINDS, n % KINDS);
@@ -60,10 +57,7 @@ pub fn plan_file(seed: u64, n: u64) -> Vec<u8> {
         GIVEN_HELD_PERCENT
     };
     let is_given = held.is_none() && kinds.within(0, 99) < percent;
-    let reasons = &mut random.aside(Aside::Reasons);
-    let plan = held
-        .or_else(|| broken_plan(reasons, kind, turn))
-        .unwrap_or_else(|| valid_plan(random, kind, turn));
+    let plan = held.unwrap_or_else(|| valid_plan(random, kind, turn));
     let mut plan = parts::varied(random, plan);
     let aside = &mut random.aside(Aside::Bands);
     if plan.bands.is_empty() && aside.within(0, 99) < BANDED_PERCENT {
@@ -81,15 +75,6 @@ fn held_plan(random: &mut Random, kind: u64, turn: u64) -> Option<Plan> {
         AT_ENDS | LARGE => None,
         CASES => random.one_in(4).then(|| cases::held_case(random, turn)),
         _ => (random.within(0, 99) < HELD_PERCENT).then(|| held::held(random)),
-    }
-}
-
-/// Now and then a plan in which a step finds no plan, in the place of one of this kind.
-fn broken_plan(random: &mut Random, kind: u64, turn: u64) -> Option<Plan> {
-    match kind {
-        AT_ENDS | LARGE => None,
-        CASES => random.one_in(4).then(|| cases::reason_case(random, turn)),
-        _ => (random.within(0, 99) < BROKEN_PERCENT).then(|| reasons::broken(random)),
     }
 }
 

@@ -1,8 +1,8 @@
-//! What several tests use: short ways to write plans and reasons, and small random plans.
+//! What several tests use: short ways to write plans, and small random plans.
 #![allow(dead_code)]
 
 use second::random::Random;
-use second::{Band, Kind, Plan, Range, Reason, Refusal, Resource, Sense, Set, Task, Value};
+use second::{Band, Kind, Plan, Range, Resource, Sense, Set, Task};
 
 /// The range that document 01 writes as "0..9".
 pub fn to(low: i64, high: i64) -> Range {
@@ -81,26 +81,6 @@ pub fn with_bands(plan: Plan, bands: &[(usize, i64, i64)]) -> Plan {
             .collect(),
         ..plan
     }
-}
-
-/// A short day, of the resource at this place.
-pub fn short(resource: usize, day: i64) -> Reason {
-    Reason::Shortfall { resource, day }
-}
-
-/// An emptied value, of the task at this place.
-pub fn emptied(task: usize, value: Value) -> Reason {
-    Reason::Emptied { task, value }
-}
-
-/// "No plan", for this reason.
-pub fn no_plan<T>(reason: Reason) -> Result<T, Refusal> {
-    Err(Refusal::no_plan(reason))
-}
-
-/// Whether the result is "no plan", whatever the reason.
-pub fn is_no_plan<T>(result: &Result<T, Refusal>) -> bool {
-    result.as_ref().is_err_and(Refusal::is_no_plan)
 }
 
 /// No bands for every second plan; for the others up to three on each resource, in order, on its days.

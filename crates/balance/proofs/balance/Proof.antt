@@ -3,7 +3,7 @@ use lib.ListN.{get_or, length}
 use Rattle.plan.specs.declared.Narrowed.TheVariants.{Kept, RanOut}
 use Rattle.integers.proofs.Tests.{clash, by_cases}
 use Rattle.integers.proofs.Lists.{each_at}
-use mathlib.Core.Bool.{true, not}
+use mathlib.Core.Bool.{true, false, not}
 use Rattle.plan.specs.Tasks.{no_task}
 use Rattle.rows.specs.View.{tasks_of}
 use Rattle.plan.specs.Tasks.{Bounded}
@@ -51,8 +51,8 @@ enum-known-u c = search rules
 put-changed-requires : tie.Need-put-changed-requires invariant-loop decreases-loop
 put-changed-requires c κs = search rules
 
-enum-known-value : tie.Need-enum-known-value invariant-loop decreases-loop
-enum-known-value c = search rules
+enum_told : tie.Need-enum-told invariant-loop decreases-loop
+enum_told c = search rules
 
 same_length : tie.Need-same-length invariant-loop decreases-loop
 same_length c = search rules
@@ -60,13 +60,12 @@ same_length c = search rules
 returns : tie.Need-returns invariant-loop decreases-loop
 unfolding balance
 returns c =
-    let v = c.before in
-    let b = v.before.before.before.before.before.before.before.before in
+    let b = c.before.before.before.before.before.before.before.before in
     let us = tasks_of b.loop.s in
     let l : b.loop.i < length us = omega (arith, length_tasks b.loop.s) in
-    let k : balanced (get_or us b.loop.i no_task) ≡ RanOut v.value.given.0.0 = cc v.value.given.1 in (
-      sym (walk_out balanced (tasks_of b.before.args.s.now) b.loop.i us b.loop.touched v.value.given.0.0 l k b.loop.invariant.2),
-      tt,
+    let k : balanced (get_or us b.loop.i no_task) ≡ RanOut c.enum_told.given.0.0 = cc c.enum_told.given.1 in (
+      sym (walk_out balanced (tasks_of b.before.args.s.now) b.loop.i us b.loop.touched c.enum_told.given.0.0 l k b.loop.invariant.2),
+      λ h. clash false h refl,
     )
 
 add-i : tie.Need-overflow-add-i invariant-loop decreases-loop
@@ -113,7 +112,7 @@ returns-2 c =
     let b = c.before in
     let us = tasks_of b.loop.s in (
       sym (walk_end balanced (tasks_of b.before.args.s.now) b.loop.i us b.loop.touched (omega (arith, length_tasks b.loop.s)) b.loop.invariant.2),
-      b.loop.invariant.2.begun.noted,
+      λ h. b.loop.invariant.2.begun.noted,
     )
 
 pub balance-spec : {M : Type 1} → statement M
@@ -128,7 +127,7 @@ balance-spec =
     balance-task-requires
     enum-known-u
     put-changed-requires
-    enum-known-value
+    enum_told
     same_length
     returns
     add-i

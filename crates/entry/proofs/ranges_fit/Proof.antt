@@ -23,7 +23,7 @@ returns c =
     let third = c.before in
     let second = third.before.before in
     let first = second.before.before in
-    and_yes first.before.days_fit.ensures first.if1.true
+    and_yes first.before.days-fit.ensures first.if1.true
     (and_yes second.before.durations-fit.ensures second.if2.true (and_yes third.before.days-fit2.ensures third.if3.true c.heights-fit.ensures))
 
 returns-2 : tie.Need-returns-2
@@ -31,18 +31,18 @@ unfolding ranges_fit
 returns-2 c =
     let second = c.before.before in
     let first = second.before.before in
-    and_yes first.before.days_fit.ensures first.if1.true
+    and_yes first.before.days-fit.ensures first.if1.true
     (and_yes second.before.durations-fit.ensures second.if2.true (and_no _ c.before.days-fit2.ensures c.if3.false))
 
 returns-3 : tie.Need-returns-3
 unfolding ranges_fit
 returns-3 c =
     let first = c.before.before in
-    and_yes first.before.days_fit.ensures first.if1.true (and_no _ c.before.durations-fit.ensures c.if2.false)
+    and_yes first.before.days-fit.ensures first.if1.true (and_no _ c.before.durations-fit.ensures c.if2.false)
 
 returns-4 : tie.Need-returns-4
 unfolding ranges_fit
-returns-4 c = and_no _ c.before.days_fit.ensures c.if1.false
+returns-4 c = and_no _ c.before.days-fit.ensures c.if1.false
 
 pub ranges-fit-spec : {M : Type 1} → statement M
 ranges-fit-spec = tie.close (tie.spec days-fit-requires durations-fit-requires days-fit-requires-2 heights-fit-requires returns returns-2 returns-3 returns-4)

@@ -3,23 +3,20 @@
 use borrow.Author.Rules.{rules}
 use borrow.Author.Tests.{not-false}
 use native.Mathlib.Omega.{arith}
-use mathlib.Core.Path.{◌≡◌, refl, sym, ap, ◌∙◌, subst}
+use mathlib.Core.Path.{◌≡◌, refl, sym, ap, ◌∙◌}
 use mathlib.Core.Bool.{true, false}
 use mathlib.Core.List.{List}
 use Prim.Native.Nat.{◌+◌, ◌-◌}
 use lib.ListN.{length}
 use Rattle.integers.proofs.Tests.{not_out}
 use Rattle.plan.specs.declared.Task.{Task}
-use Rattle.plan.specs.declared.Reason.{Reason}
 use Rattle.plan.specs.declared.Call.TheVariants.{Within}
 use Rattle.rules.specs.Frame.{Frame}
-use Rattle.rules.specs.Settle.{Settled, pass, settle_within}
+use Rattle.rules.specs.Settle.{Settled, settle_within}
 use Rattle.rules.specs.Calls.{settled, call_of}
 use Rattle.rules.proofs.Calls.{call_answered}
 use Rattle.rows.specs.View.{tasks_of, at_least}
-use Rattle.idle.specs.declared.Progress.{Progress}
 use Rattle.idle.specs.declared.Passed.{Passed}
-use Rattle.idle.specs.Mask.{Took}
 use Rattle.idle.proofs.Settles.{Settles, settles_start, settles_end, settles_none, settles_last, settles_more}
 use Rattle.passes.proofs.Ready.{stays_ready}
 use Rattle.passes.proofs.settle_rows.Statement.{statement}
@@ -45,30 +42,29 @@ answers c x e = ap (settled (ts c)) (sym e) ∙ sym (call_answered (Within c.arg
 
 -- a pass: what it found, how it goes on
 module _ (d : tie.After-pass-rows invariant-loop decreases-loop) where
-  abbrev at : tie.At-loop invariant-loop decreases-loop
-  at = d.before.before.before.before.before.before
-
   abbrev start : tie.Start invariant-loop decreases-loop
-  start = at.before.before.before.before.before
+  start = d.before.before.before.before.before.before.before.before.before.before.before
+
+  abbrev p : Passed
+  p = d.pass-rows.result
 
   abbrev us : List Task
   us = tasks_of d.pass-rows.last.1.1.0
 
-  took : (p : Passed) → d.pass-rows.result ≡ p → Took (pass (f start)) (f start) false (tasks_of at.loop.s) p us
-  took p e = subst (λ (o : Passed). Took (pass (f start)) (f start) false (tasks_of at.loop.s) o us) e d.pass-rows.ensures
+  none : p.ok ≡ false → settle_within start.args.most (f start) (ts start) ≡ Settled.Refused
+  none e =
+      let l = d.before.before.before.before.before.before in
+      settles_none start.args.most (f start) refl (ts start) (tasks_of l.loop.s) l.loop.mask l.loop.passes l.loop.inv.4 (omega arith) p us d.pass-rows.ensures e
 
-  none : (e : Reason) → d.pass-rows.result ≡ Passed.NoPlan e → settle_within start.args.most (f start) (ts start) ≡ Settled.Refused e
-  none e h =
-      settles_none start.args.most (f start) refl (ts start) (tasks_of at.loop.s) at.loop.mask at.loop.passes at.loop.inv.4 (omega arith) e (took (Passed.NoPlan e) h)
+  last : p.ok ≡ true → p.changed ≡ false → settle_within start.args.most (f start) (ts start) ≡ Settled.After (d.before.before.before.before.before.before.loop.passes + 1) us
+  last e h =
+      let l = d.before.before.before.before.before.before in
+      settles_last start.args.most (f start) refl (ts start) (tasks_of l.loop.s) l.loop.mask l.loop.passes l.loop.inv.4 (omega arith) p us d.pass-rows.ensures e h
 
-  module _ (p : Progress) (e : d.pass-rows.result ≡ Passed.Plan p) where
-    last : p.changed ≡ false → settle_within start.args.most (f start) (ts start) ≡ Settled.After (at.loop.passes + 1) us
-    last h =
-        settles_last start.args.most (f start) refl (ts start) (tasks_of at.loop.s) at.loop.mask at.loop.passes at.loop.inv.4 (omega arith) p us (took (Passed.Plan p) e) h
-
-    more : p.changed ≡ true → Settles start.args.most (f start) (ts start) us p.mask (at.loop.passes + 1)
-    more h =
-        settles_more start.args.most (f start) refl (ts start) (tasks_of at.loop.s) at.loop.mask at.loop.passes at.loop.inv.4 (omega arith) p us (took (Passed.Plan p) e) h
+  more : p.ok ≡ true → p.changed ≡ true → Settles start.args.most (f start) (ts start) us p.mask (d.before.before.before.before.before.before.loop.passes + 1)
+  more e h =
+      let l = d.before.before.before.before.before.before in
+      settles_more start.args.most (f start) refl (ts start) (tasks_of l.loop.s) l.loop.mask l.loop.passes l.loop.inv.4 (omega arith) p us d.pass-rows.ensures e h
 
 lively-places-requires : tie.Need-lively-places-requires invariant-loop decreases-loop
 lively-places-requires c κs = search rules
@@ -85,9 +81,6 @@ pass-rows-requires c κs =
     let i = l.loop.invariant in
     (stays_ready b.requires l.loop.s l.loop.keys l.loop.spare l.loop.ss i.4.accepted i.0 i.1 i.2 i.3, i.4.idle)
 
-enum-known-e : tie.Need-enum-known-e invariant-loop decreases-loop
-enum-known-e c = search rules
-
 same_length : tie.Need-same-length invariant-loop decreases-loop
 same_length c = omega arith
 
@@ -102,12 +95,8 @@ same-length-4 c = omega arith
 
 returns : tie.Need-returns invariant-loop decreases-loop
 returns c =
-    let e = c.before in
-    let d = e.before.before.before.before.before.before.before.before in
-    answers (start d) (Settled.Refused e.e.given.0.0) (none d e.e.given.0.0 e.e.given.1)
-
-enum-known-p : tie.Need-enum-known-p invariant-loop decreases-loop
-enum-known-p c = search rules
+    let d = c.before.before.before.before.before.before.before.before in
+    answers (start d) Settled.Refused (none d (not_out (p d).ok c.if1.true))
 
 add-passes : tie.Need-overflow-add-passes invariant-loop decreases-loop
 add-passes c = omega arith
@@ -126,24 +115,22 @@ same-length-8 c = omega arith
 
 returns-2 : tie.Need-returns-2 invariant-loop decreases-loop
 returns-2 c =
-    let g = c.before.before.before in
-    let d = g.before.before.before.before.before.before.before.before in
-    let p = g.p.given.0.0 in
-    answers (start d) (Settled.After _ (us d)) (last d p g.p.given.1 (not_out p.changed c.if1.true))
+    let e = c.before.before in
+    let d = e.before.before.before.before.before.before.before.before in
+    answers (start d) (Settled.After _ (us d)) (last d (not-false (p d).ok e.if1.false) (not_out (p d).changed c.if2.true))
 
 loop-less : tie.Need-loop-smaller invariant-loop decreases-loop
 loop-less c = omega arith
 
 loop-again : tie.Need-loop-preserved invariant-loop decreases-loop
 loop-again c =
-    let g = c.before.before.before in
-    let d = g.before.before.before.before.before.before.before.before in
-    let p = g.p.given.0.0 in (
+    let e = c.before.before in
+    let d = e.before.before.before.before.before.before.before.before in (
       omega arith,
       omega arith,
       omega arith,
       omega arith,
-      more d p g.p.given.1 (not-false p.changed c.if1.false),
+      more d (not-false (p d).ok e.if1.false) (not-false (p d).changed c.if2.false),
     )
 
 same-length-9 : tie.Need-same-length-9 invariant-loop decreases-loop
@@ -174,13 +161,11 @@ settle-rows-spec =
     lively-places-requires
     loop-holds
     pass-rows-requires
-    enum-known-e
     same_length
     same-length-2
     same-length-3
     same-length-4
     returns
-    enum-known-p
     add-passes
     same-length-5
     same-length-6

@@ -3,10 +3,12 @@ use borrow.Author.Rules.{rules}
 use native.Mathlib.Omega.{arith}
 use mathlib.Core.Path.{◌≡◌, refl, sym, ap, ◌∙◌, subst}
 use mathlib.Core.Logic.{⊎_elim}
+use mathlib.Core.Bool.{false}
 use mathlib.Core.List.{List}
 use Prim.Native.Nat.{ℕ, ◌≤◌, ◌<◌, ◌-◌}
 use lib.ListN.{length, get_or}
 use Rattle.integers.specs.Lists.{In}
+use Rattle.integers.proofs.Tests.{clash}
 use Rattle.integers.proofs.Lists.{in_at, each_in}
 use Rattle.plan.specs.declared.Task.{Task}
 use Rattle.plan.specs.Tasks.{no_task}
@@ -81,27 +83,27 @@ enum-known-u c = search rules
 put-changed-requires : tie.Need-put-changed-requires invariant-loop decreases-loop
 put-changed-requires c κs = search rules
 
-enum-known-value : tie.Need-enum-known-value invariant-loop decreases-loop
-enum-known-value c = search rules
+enum_told : tie.Need-enum-told invariant-loop decreases-loop
+enum_told c = search rules
 
 same_length : tie.Need-same-length invariant-loop decreases-loop
 same_length c = omega arith
 
 returns : tie.Need-returns invariant-loop decreases-loop
 returns c =
-    let n = c.before.before.before in
+    let n = c.before.before in
     let t = n.before in
     let k = t.before.before.before.before.before in
     let l = k.before in
     let b = l.before.before in
     let ts = tasks_of b.args.s.now in
     let us = tasks_of l.loop.s in
-    let v = c.before.value.given in (
+    let v = c.enum_told.given in (
       λ limit told.
           let e = by_page b.args.r limit (stretches_of b.args.ss.now) ts b.requires.1 (read t) told n.narrow.result n.narrow.ensures in
           let f = narrowed b.args.r limit ts (listed_days ts) in
           sym (sym (l.loop.invariant.3 limit told) ∙ each_out f no_task v.0.0 l.loop.i us (inside k) (rw (← t.task-at.ensures) (e ∙ v.1))),
-      tt,
+      λ h. clash false h refl,
     )
 
 add-i : tie.Need-overflow-add-i invariant-loop decreases-loop
@@ -161,7 +163,7 @@ returns-2 c =
     let us = tasks_of l.loop.s in (
       λ limit told.
           sym (sym (l.loop.invariant.3 limit told) ∙ each_end (narrowed b.args.r limit ts (listed_days ts)) l.loop.i us (omega (arith, length_tasks l.loop.s))),
-      l.loop.invariant.2.noted,
+      λ h. l.loop.invariant.2.noted,
     )
 
 pub narrow-all-spec : {M : Type 1} → statement M
@@ -177,7 +179,7 @@ narrow-all-spec =
     narrow-requires
     enum-known-u
     put-changed-requires
-    enum-known-value
+    enum_told
     same_length
     returns
     add-i

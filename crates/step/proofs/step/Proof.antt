@@ -1,40 +1,27 @@
 -- A shortfall is no plan; else every task by itself, as the page has it.
-use native.Mathlib.Omega.{arith}
-use mathlib.Core.Path.{◌≡◌, sym, ap, ◌∙◌, subst}
+use mathlib.Core.Path.{◌≡◌, refl, sym, ◌∙◌, subst}
 use mathlib.Core.Bool.{false}
-use mathlib.Core.List.{List, []}
-use Prim.Native.Nat.{ℕ, ◌≤◌, ◌<◌}
-use lib.Dec.{ltb}
-use lib.IntN.{ℤ}
+use mathlib.Core.List.{[]}
+use Prim.Native.Nat.{ℕ}
 use lib.ListN.{length, take}
-use lib.Seq.{length-take-le, get_or-take}
-use borrow.Author.Tests.{lt-ltb, le-ltb}
+use lib.Seq.{length-take-le}
 use Rattle.integers.specs.Tests.{any}
-use Rattle.integers.specs.Hull.{first_of}
 use Rattle.integers.specs.Lists.{In}
+use Rattle.integers.proofs.Tests.{clash}
 use Rattle.integers.proofs.Lists.{each_so}
 use Rattle.plan.specs.declared.Task.{Task}
-use Rattle.plan.specs.declared.Shortfall.{Shortfall}
-use Rattle.plan.specs.declared.Reason.TheVariants.{Short}
-use Rattle.plan.specs.Refusals.{short}
 use Rattle.rules.specs.Frame.{limit_from, floor}
 use Rattle.rules.specs.Step.{shortfall, listed_days}
 use Rattle.rows.specs.View.{tasks_of, bands_of}
 use Rattle.rows.proofs.Changes.{touched_self}
-use Rattle.rules.specs.Balance.{Outcome}
-use Rattle.stretches.specs.declared.Stretch.{Stretch}
-use Rattle.stretches.specs.View.{stretches_of, no_stretch}
+use Rattle.stretches.specs.View.{stretches_of}
 use Rattle.stretches.specs.Tells.{Tells}
-use Rattle.stretches.proofs.View.{stretches_take, length_stretches}
+use Rattle.stretches.proofs.View.{stretches_take}
 use Rattle.step.specs.Told.{TellsAll}
 use Rattle.step.proofs.Listed.{none_left, step_enough, step_short}
 use borrow.Author.Rules.{rules}
 use Rattle.step.proofs.step.Statement.{statement}
 use Rattle.step.proofs.step.Tie as tie
-
--- as many stretches as are told
-few-stretches : (n : ℕ) (ss : List (List ℤ)) → n ≤ length ss → length (take n (stretches_of ss)) ≡ n
-few-stretches n ss h = length-take-le n (stretches_of ss) (omega (arith, length_stretches ss, h))
 
 profile-requires : tie.Need-profile-requires
 profile-requires c κs =
@@ -56,25 +43,11 @@ same-length-4 c = search rules
 returns : tie.Need-returns
 returns c =
     let d = c.before.before.before.before.before.before in
-    let b = d.before.before.before.before.before.before.before in
-    let r = b.args.r in
-    let limit = floor b.args.kind (limit_from r b.args.limit.0 (bands_of b.args.b.now)) in
-    let ts = tasks_of b.args.s.now in
-    let ss = stretches_of d.profile.new.1.1.1.1.1.1.1.0 in
-    let q = d.profile.ensures.1 in
-    let k = d.profile.result.short in
-    let none : ltb k (length (take 0 ss)) ≡ any (shortfall r limit ts) (listed_days ts) = subst (λ (n : ℕ). ltb k (length (take n ss)) ≡ any (shortfall r limit ts) (listed_days ts)) c.if1.true q.short_is in
-    let enough : any (shortfall r limit ts) (listed_days ts) ≡ false = sym none ∙ le-ltb k 0 (omega arith) in
-    let tells : (t : Task) → In t ts → Tells r limit ts t [] = λ t k. subst (λ (n : ℕ). Tells r limit ts t (take n ss)) c.if1.true (q.tells k) in
-    (sym (step_enough r limit ts enough ∙ none_left r limit ts b.requires.1.1 tells), sym (touched_self ts))
-
-stretch-at-requires : tie.Need-stretch-at-requires
-stretch-at-requires c κs =
-    let d = c.before.before.before.before.before.before.before.before.before in
-    omega (arith, c.before.if2.true, d.profile.ensures.0)
-
-short-on-requires : tie.Need-short-on-requires
-short-on-requires c κs = search rules
+    let b = c.before.before.before.before.before.before.before.before.before.before.before.before.before in
+    let limit = floor b.args.kind (limit_from b.args.r b.args.limit.0 (bands_of b.args.b.now)) in (
+      sym (step_short b.args.r limit (tasks_of b.args.s.now) (sym d.profile.ensures.1.short_is ∙ c.if1.true)),
+      λ h. clash false h refl,
+    )
 
 same-length-5 : tie.Need-same-length-5
 same-length-5 c = search rules
@@ -90,32 +63,23 @@ same-length-8 c = search rules
 
 returns-2 : tie.Need-returns-2
 returns-2 c =
-    let t = c.before in
-    let i = t.before.before in
-    let d = i.before.before.before.before.before.before.before.before in
-    let b = d.before.before.before.before.before.before.before in
+    let d = c.before.before.before.before.before.before.before in
+    let b = c.before.before.before.before.before.before.before.before.before.before.before.before.before.before in
     let r = b.args.r in
     let limit = floor b.args.kind (limit_from r b.args.limit.0 (bands_of b.args.b.now)) in
     let ts = tasks_of b.args.s.now in
     let ss = stretches_of d.profile.new.1.1.1.1.1.1.1.0 in
-    let n = d.profile.result.stretches in
-    let k = d.profile.result.short in
     let q = d.profile.ensures.1 in
-    let few = few-stretches n d.profile.new.1.1.1.1.1.1.1.0 d.profile.ensures.0 in
-    let at : k < length (take n ss) = omega (arith, few, i.if2.true) in
-    let day : t.stretch-at.result.from.0 ≡ first_of (shortfall r limit ts) (listed_days ts) =
-    ap (λ (x : Stretch). x.from.0) (t.stretch-at.ensures ∙ sym (get_or-take n ss k no_stretch (omega (arith, i.if2.true)))) ∙ sym (q.day at) in (
-      ap (λ (x : Shortfall). Outcome.NoPlan (Short x)) c.short_on.ensures ∙ ap (λ (x : ℤ). Outcome.NoPlan (short r x)) day
-          ∙ sym (step_short r limit ts (sym q.short_is ∙ lt-ltb k (length (take n ss)) at)),
-      tt,
-    )
+    let enough : any (shortfall r limit ts) (listed_days ts) ≡ false = sym q.short_is ∙ c.before.if1.false in
+    let tells : (t : Task) → In t ts → Tells r limit ts t [] = λ t k. subst (λ (n : ℕ). Tells r limit ts t (take n ss)) c.if2.true (q.tells k) in
+    (sym (step_enough r limit ts enough ∙ none_left r limit ts b.requires.1.1 tells), λ h. sym (touched_self ts))
 
 slice-reshare-prefix-narrow-all : tie.Need-slice-reshare-prefix-narrow-all
 slice-reshare-prefix-narrow-all c = search rules
 
 slice-aggregate-narrow-all : tie.Need-slice-aggregate-narrow-all
 slice-aggregate-narrow-all c =
-    let p = c.before.before.before.before.before.before.before.before.before.before.profile in
+    let p = c.before.before.before.before.before.before.before.before.before.profile in
     sym (length-take-le p.result.stretches _ p.ensures.0)
 
 narrow-all-requires : tie.Need-narrow-all-requires
@@ -135,18 +99,15 @@ same-length-12 c = search rules
 
 returns-3 : tie.Need-returns-3
 returns-3 c =
-    let i = c.before.before.before.before in
-    let d = i.before.before.before.before.before.before.before.before in
-    let b = d.before.before.before.before.before.before.before in
+    let d = c.before.before.before.before.before.before.before.before.before.before.before in
+    let b = c.before.before.before.before.before.before.before.before.before.before.before.before.before.before.before.before.before.before in
     let r = b.args.r in
     let limit = floor b.args.kind (limit_from r b.args.limit.0 (bands_of b.args.b.now)) in
     let ts = tasks_of b.args.s.now in
     let n = d.profile.result.stretches in
-    let k = d.profile.result.short in
     let ss = d.profile.new.1.1.1.1.1.1.1.0 in
     let q = d.profile.ensures.1 in
-    let few = few-stretches n ss d.profile.ensures.0 in
-    let enough : any (shortfall r limit ts) (listed_days ts) ≡ false = sym q.short_is ∙ le-ltb k (length (take n (stretches_of ss))) (omega (arith, few, i.if2.false)) in
+    let enough : any (shortfall r limit ts) (listed_days ts) ≡ false = sym q.short_is ∙ c.before.before.before.before.before.if1.false in
     let told : TellsAll r limit ts (stretches_of (take n ss)) =
     record { tells = λ {t} k. subst (Tells r limit ts t) (sym (stretches_take n ss)) (q.tells k); enough = enough } in
     (c.before.narrow-all.ensures.0 limit told ∙ sym (step_enough r limit ts enough), c.before.narrow-all.ensures.1)
@@ -161,8 +122,6 @@ step_spec =
     same-length-3
     same-length-4
     returns
-    stretch-at-requires
-    short-on-requires
     same-length-5
     same-length-6
     same-length-7

@@ -1,16 +1,17 @@
--- The word, the number, and the place or the reason.
+-- The word, the number, the place.
+use native.Mathlib.Omega.{arith}
 use mathlib.Core.Path.{ap}
-use Rattle.text.specs.Text.{digits, detail_text, refused_line}
-use Rattle.text.proofs.Texts.{put_is, put_then}
+use Rattle.text.specs.Text.{digits, refused_word, refused_line}
+use Rattle.text.proofs.Texts.{put_is, put_then, put_copied}
 use borrow.Author.Rules.{rules}
 use Rattle.text.proofs.put_refused.Statement.{statement}
 use Rattle.text.proofs.put_refused.Tie as tie
 
-slice-aggregate-put-word : tie.Need-slice-aggregate-put-word
-slice-aggregate-put-word c = search rules
+slice-aggregate-copy : tie.Need-slice-aggregate-copy
+slice-aggregate-copy c = search rules
 
-put-word-requires : tie.Need-put-word-requires
-put-word-requires c κs = search rules
+copy-requires : tie.Need-copy-requires
+copy-requires c κs = search rules
 
 number-requires : tie.Need-number-requires
 number-requires c κs = search rules
@@ -21,11 +22,11 @@ put-digits-requires c κs = search rules
 put-byte-requires : tie.Need-put-byte-requires
 put-byte-requires c κs = search rules
 
-detail-requires : tie.Need-detail-requires
-detail-requires c κs = search rules
+place-requires : tie.Need-place-requires
+place-requires c κs = search rules
 
-put-detail-requires : tie.Need-put-detail-requires
-put-detail-requires c κs = search rules
+put-digits-requires-2 : tie.Need-put-digits-requires-2
+put-digits-requires-2 c κs = search rules
 
 put-byte-requires-2 : tie.Need-put-byte-requires-2
 put-byte-requires-2 c κs = search rules
@@ -37,26 +38,26 @@ returns : tie.Need-returns
 unfolding refused_line
 returns c =
     let feed = c.before.before in
-    let detail = feed.before.before.before.before in
-    let gap = detail.before.before.before.before.before in
+    let place = feed.before.before.before.before in
+    let gap = place.before.before.before.before.before in
     let count = gap.before.before.before.before in
     let word = count.before.before.before.before.before in
-    put_then word.put_word.ensures
+    put_then (put_copied refused_word _ (omega arith) word.copy.ensures)
     (put_then (put_is (ap digits count.before.number.ensures) count.put-digits.ensures)
     (put_then gap.put_byte.ensures
-    (put_then (put_is (ap detail_text detail.before.detail.ensures) detail.put-detail.ensures) feed.put-byte2.ensures)))
+    (put_then (put_is (ap digits place.before.place.ensures) place.put-digits2.ensures) feed.put-byte2.ensures)))
 
 pub put-refused-spec : {M : Type 1} → statement M
 put-refused-spec =
     tie.close
     (tie.spec
-    slice-aggregate-put-word
-    put-word-requires
+    slice-aggregate-copy
+    copy-requires
     number-requires
     put-digits-requires
     put-byte-requires
-    detail-requires
-    put-detail-requires
+    place-requires
+    put-digits-requires-2
     put-byte-requires-2
     same_length
     returns)
