@@ -1,4 +1,5 @@
 // A cursor stands in the lent file bytes and hands out one record after another: a place by value on the bytes.
+#![tactic(auto)]
 ghost use Rattle.std.specs.Prelude.{◌≡◌, false, [], ◌∷◌, ◌+◌, ◌≤◌, ◌<◌, ◌^◌, ltb, length, drop};
 ghost use Rattle.integers.specs.Tests.{if};
 ghost use Rattle.format.specs.declared.Mark.TheVariants.{PL, RS, LB, TK};

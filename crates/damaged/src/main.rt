@@ -1,5 +1,6 @@
 // Damaged plan files, the page's number and place of each refusal on a line. The whole file is the page's case 9: its records start
 // at bytes 0, 6, 16, 26 and 62, and it ends at 98; a byte too many follows. With bands, these start at byte 26, 12 bytes each.
+#![tactic(auto)]
 ghost use Rattle.std.specs.Prelude.{◌≤◌, length};
 ghost use Rattle.plan.specs.Tasks.{most_resources, most_bands, most_tasks};
 

@@ -1,5 +1,6 @@
 // One resource's tasks as events: each task that may stand there gives at most four, an event being a day and what changes from that
 // day on, packed into one key that rises with the day; and the extremes of those tasks. Cost: one run over the tasks.
+#![tactic(auto)]
 ghost use Rattle.std.specs.Prelude.{◌≡◌, ◌+◌, ◌*◌, ◌≤◌, ◌<◌, pos, neg_ℤ, ◌+ℤ◌, ◌-ℤ◌, nat_abs, length, get_or, ◌≤ℤ◌};
 ghost use Rattle.std.specs.Int.Signed.{lt_z};
 ghost use Rattle.std.specs.Int.{w64};

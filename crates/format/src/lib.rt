@@ -1,4 +1,5 @@
 // The plan file's format: its marks, records and fields, what reading and writing answer, and the laws of what is written and read.
+#![tactic(auto)]
 ghost use Rattle.format.specs.Numbers.{Byte};
 ghost use Rattle.format.specs.Writing.{Identified};
 

@@ -1,5 +1,6 @@
 // Which resources' steps would change nothing: the lively tasks and where they may stand; and the laws of the mask, which saves steps and is no
 // part of any answer.
+#![tactic(auto)]
 ghost use Rattle.std.specs.Prelude.{◌≡◌, true, false, ◌-◌, ◌^◌};
 ghost use Rattle.integers.specs.Tests.{if};
 ghost use Rattle.plan.specs.Sets.{union};

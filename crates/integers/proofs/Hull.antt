@@ -8,7 +8,7 @@ use native.Mathlib.Omega.{arith}
 use lib.IntN.{ℤ, pos, negsuc, suc_ℤ, ◌+ℤ◌, ◌-ℤ◌, nat_abs}
 use lib.Signed.{le_z, lt_z, ◌≤ℤ◌, ◌<ℤ◌}
 use Rattle.integers.specs.Whole.{eq_z}
-use Rattle.integers.specs.Tests.{if, and, all, filter}
+use Rattle.integers.specs.Tests.{and, all, filter}
 use Rattle.integers.specs.Hull.{Range, range, within, same_range, fits, Sub, width, up_from, count_of, values, last, Left, hull, left}
 use Rattle.integers.specs.Hull.Left.{Nothing, Some}
 use Rattle.integers.specs.Ends.{Within, InEnds}

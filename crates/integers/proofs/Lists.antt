@@ -53,6 +53,7 @@ module _ {A : Type 0} where
   -- ---- each of them
   module _ {P : A → Type 0} where
     pub each_in : {x : A} {xs : List A} → Each P xs → In x xs → P x
+    each_in nothing k = elim k [ ]
     each_in (also p ps) head = p
     each_in (also p ps) (tail k) = each_in ps k
 

@@ -1,4 +1,6 @@
 // Whole numbers for code: orders, distances and negation of i64, and the signed number of 32 bits, that say what they give.
+#![tactic(auto)]
+
 ghost use Rattle.std.specs.Prelude.{◌≡◌, neg_ℤ, ◌-ℤ◌, nat_abs, ◌≤ℤ◌};
 ghost use Rattle.std.specs.Int.{w32, w64};
 ghost use Rattle.std.proofs.Common.{to_z, SFits};

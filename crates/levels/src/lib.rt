@@ -1,5 +1,6 @@
 // A resource's bands as changes of its limit: the limit on the first of the days that its tasks have, and a key for each later of those
 // days on which the limit is another. Cost: one run over the bands.
+#![tactic(auto)]
 ghost use Rattle.std.specs.Prelude.{◌≡◌, true, [], ◌∷◌, ◌+◌, ◌≤◌, ◌<◌, eqb, length};
 ghost use Rattle.std.specs.Int.Signed.{le_z};
 ghost use Rattle.integers.specs.Tests.{if, all};

@@ -7,7 +7,7 @@ use native.Mathlib.Nat.{pow-succ', two-pow-succ, div-one, div-div-eq-div-mul, po
 use native.Mathlib.Omega.{arith}
 use lib.Bits.{bit_and, bit_or, bit_xor, and_step, differ, or_step, or_comm, xor_step}
 use lib.Dec.{T, eqb, eqb→eq, eqb_refl}
-use Rattle.integers.specs.Tests.{if, or}
+use Rattle.integers.specs.Tests.{or}
 use Rattle.integers.proofs.Tests.{clash, by_cases, true_of, false_in, if-case, or_first, or_assoc}
 use Rattle.plan.specs.Sets.{has, only, at_most_one, without, SubSet, size, union, differing}
 

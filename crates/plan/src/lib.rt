@@ -1,5 +1,7 @@
 // The nouns of a plan: days and powers, their ranges, tasks, resources and sets of them, bands, the sense, and every answer a call can give.
 // "A day number is never added to a power, so the two get separate kinds in the code."
+#![tactic(auto)]
+
 ghost use Rattle.std.specs.Prelude.{◌≡◌, ◌<◌, ◌+ℤ◌, ◌-ℤ◌, neg_ℤ, nat_abs, ◌≤ℤ◌};
 ghost use Rattle.std.specs.Int.Signed.{lt_z, le_z};
 ghost use Rattle.std.specs.Int.{w64};
@@ -20,7 +22,7 @@ pub const MOST_BANDS: usize = 64;
 pub const MOST_TASKS: usize = 256;
 
 // A day number, or a number of days.
-#[derive(Drop)]
+#[derive(Clone, Copy)]
 pub struct Day(pub i64);
 
 // "origin, end (day number) from -100,000 to 100,000"; "duration from 0 to 10,000".
@@ -35,7 +37,7 @@ impl Day {
 
     // The ends that the definitions name are these constants.
     pub fn ends() -> Span
-        ensures* constants { do ⌜ (result.low.0 ≡ (← (⟦Day::LOW.0⟧).entry)) × (result.high.0 ≡ (← (⟦Day::HIGH.0⟧).entry)) ⌝ }
+        ensures constants { (result.low.0 ≡ Day.LOW.0) × (result.high.0 ≡ Day.HIGH.0) }
         ensures named { result ≡ span_of day_ends }
     {
         Span {
@@ -45,7 +47,7 @@ impl Day {
     }
 
     pub fn lengths() -> Span
-        ensures* constants { do ⌜ (result.low.0 ≡ (← (⟦Day::SHORTEST.0⟧).entry)) × (result.high.0 ≡ (← (⟦Day::LONGEST.0⟧).entry)) ⌝ }
+        ensures constants { (result.low.0 ≡ Day.SHORTEST.0) × (result.high.0 ≡ Day.LONGEST.0) }
         ensures named { result ≡ span_of duration_ends }
     {
         Span {
@@ -108,7 +110,7 @@ impl Day {
 }
 
 // A power: a height, a limit or a sum of heights.
-#[derive(Drop)]
+#[derive(Clone, Copy)]
 pub struct Power(pub i64);
 
 // "height, limit from -1,000,000 to 1,000,000"
@@ -119,7 +121,7 @@ impl Power {
 
     // The ends that the definitions name are these constants.
     pub fn ends() -> PowerSpan
-        ensures* constants { do ⌜ (result.low.0 ≡ (← (⟦Power::LOW.0⟧).entry)) × (result.high.0 ≡ (← (⟦Power::HIGH.0⟧).entry)) ⌝ }
+        ensures constants { (result.low.0 ≡ Power.LOW.0) × (result.high.0 ≡ Power.HIGH.0) }
         ensures named { result ≡ power_span_of power_ends }
     {
         PowerSpan {
@@ -196,7 +198,7 @@ impl Power {
 }
 
 // A range of days: "a lowest and highest value (inclusive, lowest not above highest)".
-#[derive(Drop)]
+#[derive(Clone, Copy)]
 pub struct Span {
     pub low: Day,
     pub high: Day,
@@ -260,7 +262,7 @@ impl Span {
 }
 
 // A range of powers.
-#[derive(Drop)]
+#[derive(Clone, Copy)]
 pub struct PowerSpan {
     pub low: Power,
     pub high: Power,
@@ -300,7 +302,7 @@ impl PowerSpan {
 
 // "Each has a non-empty set of resources it may be placed on, and a lowest and highest value (inclusive, lowest not above highest) for origin,
 // duration, end and height."
-#[derive(Drop)]
+#[derive(Clone, Copy)]
 pub struct Task {
     pub set: u64,
     pub origin: Span,
@@ -310,14 +312,14 @@ pub struct Task {
 }
 
 // "A resource gets a kind, plain or held": on a held one the limit must hold between the tasks too.
-#[derive(Drop)]
+#[derive(Clone, Copy)]
 pub enum Kind {
     Plain,
     Held,
 }
 
 // "Each has an identifier (any signed 32-bit number, each different) and a limit"; and a kind.
-#[derive(Drop)]
+#[derive(Clone, Copy)]
 pub struct Resource {
     pub id: i32,
     pub kind: Kind,
@@ -325,7 +327,7 @@ pub struct Resource {
 }
 
 // "resource place (2 bytes), first day (4), limit (4)": from that day on the resource at that place has this limit.
-#[derive(Drop)]
+#[derive(Clone, Copy)]
 pub struct Band {
     pub place: usize,
     pub from: Day,
@@ -333,14 +335,14 @@ pub struct Band {
 }
 
 // "A sense for the whole plan: 0 at most, 1 at least."
-#[derive(Drop)]
+#[derive(Clone, Copy)]
 pub enum Sense {
     AtMost,
     AtLeast,
 }
 
 // The most that a plan counts; the definitions name these constants.
-#[derive(Drop)]
+#[derive(Clone, Copy)]
 pub struct Counts {
     pub resources: usize,
     pub bands: usize,
@@ -359,7 +361,7 @@ pub fn most_counts() -> Counts
 }
 
 // The values of a task, in the order in which they are taken when one has run out.
-#[derive(Drop)]
+#[derive(Clone, Copy)]
 pub enum Value {
     Origin,
     Duration,
@@ -369,14 +371,14 @@ pub enum Value {
 }
 
 // One task after a step: what is left of it, or the first value of which nothing is left.
-#[derive(Drop)]
+#[derive(Clone, Copy)]
 pub enum Narrowed {
     Kept(Task),
     RanOut(Value),
 }
 
 // "Numbered refusals", in the order of their numbers; what a case holds is its place.
-#[derive(Drop)]
+#[derive(Clone, Copy)]
 pub enum Refusal {
     TooManyTasks,
     ResourceCount,
@@ -438,14 +440,14 @@ impl Refusal {
 }
 
 // What a check answers: accepted, or the first refusal.
-#[derive(Drop)]
+#[derive(Clone, Copy)]
 pub enum Checked {
     Accepted,
     Refused(Refusal),
 }
 
 // What a caller can ask for.
-#[derive(Drop)]
+#[derive(Clone, Copy)]
 pub enum Call {
     Check,
     Balance,
@@ -460,7 +462,7 @@ pub enum Call {
 
 // What a call answers: done, with the passes that settling made or those that it makes at most (0 for every other call, and where the passes that
 // settling may make were too few); or one refusal.
-#[derive(Drop)]
+#[derive(Clone, Copy)]
 pub enum Answer {
     Done(u64),
     Refused(Refusal),

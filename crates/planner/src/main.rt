@@ -1,4 +1,5 @@
 // The planning program: a plan file on standard input, settled; its text on standard output.
+#![tactic(auto)]
 use report::MOST_READ;
 
 fn main() {

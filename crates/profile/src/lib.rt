@@ -1,6 +1,7 @@
 // One resource's days as stretches of equal days: each task that may stand there gives events, each of its bands one more, a held one's span two,
 // the events are sorted by day, and one run over them writes a stretch up to each event's day with what has been added up by then. Only stretches that
 // some rule could touch are kept. Cost: n log n for n tasks and bands; no day is visited, and no task for a stretch.
+#![tactic(auto)]
 ghost use Rattle.std.specs.Prelude.{◌≡◌, ◌++◌, ◌+◌, ◌*◌, ◌≤◌, ◌<◌, ◌+ℤ◌, length, take};
 ghost use Rattle.std.specs.Int.Signed.{lt_z};
 ghost use Rattle.std.specs.Int.{w64};

@@ -1,5 +1,6 @@
 // "A reader stands in the lent file bytes and hands out one record after another": it holds the bytes and its place in them.
 // Each of its functions takes it apart for the cursor by value, which stands on the same bytes.
+#![tactic(auto)]
 ghost use Rattle.std.specs.Prelude.{◌≡◌};
 ghost use Rattle.cursor.specs.Handed.{record_at, past_at};
 

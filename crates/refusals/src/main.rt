@@ -1,5 +1,6 @@
 // One input for each refusal of the entry checks, the page's number and place of each on a line; where two faults meet, the one that
 // comes first in the page's order.
+#![tactic(auto)]
 use plan::Checked;
 use rows::{BandRow, ResourceRow, TaskRow};
 

@@ -1,6 +1,7 @@
 // Searches over the stretches of one resource, each for any test of days that the stretches tell: the first and the last value that
 // no day hits, the longest duration, the least slack, the first and the last needed day, how many stretches begin before a day.
 // Cost: the stretches, once for each search (of those that begin before a day, by halves); no loop runs over days.
+#![tactic(auto)]
 ghost use Rattle.std.specs.Prelude.{◌≡◌, not, ◌≤◌, pos, ◌≤ℤ◌, length};
 ghost use Rattle.std.specs.Int.Signed.{lt_z};
 ghost use Rattle.integers.specs.Tests.{and};

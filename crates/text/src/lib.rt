@@ -1,4 +1,5 @@
 // The planning program's lines, put into what is lent: each function answers the place past its text.
+#![tactic(auto)]
 ghost use Rattle.std.specs.Prelude.{◌≡◌, [], ◌∷◌, ◌++◌, ◌+◌, ◌*◌, ◌≤◌, ◌<◌, length};
 ghost use Rattle.plan.specs.Days.{days_of};
 ghost use Rattle.plan.specs.Powers.{powers_of};

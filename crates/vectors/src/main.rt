@@ -1,5 +1,6 @@
 // A stream of plan files on standard input, each with its length in front as 4 bytes little-endian; for each what the planning
 // program prints. The files, and the second program's answers to them, are made by tools/vectors.
+#![tactic(auto)]
 ghost use Rattle.std.specs.Prelude.{◌≡◌, ◌≤◌, ◌<◌, length};
 ghost use Rattle.io.specs.Counts.{IsPrefixLen};
 
