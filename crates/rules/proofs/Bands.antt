@@ -8,9 +8,9 @@ use native.Mathlib.Omega.{arith}
 use lib.Dec.{eqb, ltb}
 use lib.IntN.{ℤ, neg_ℤ}
 use lib.ListN.{length}
-use lib.Signed.{lt_z, le_z, ◌≤ℤ◌, ◌<ℤ◌}
+use lib.Signed.{lt_z, ◌≤ℤ◌, ◌<ℤ◌}
 use borrow.Author.Tests.{ltb-true, ltb-false}
-use Rattle.integers.specs.Tests.{if, and, or, all}
+use Rattle.integers.specs.Tests.{if, and, all}
 use Rattle.integers.specs.Hull.{within}
 use Rattle.integers.specs.Ends.{Within}
 use Rattle.integers.proofs.Z.{z, le_z_out}

@@ -7,7 +7,7 @@ use mathlib.Core.Bool.{Bool, true, false}
 use lib.IntN.{ℤ}
 use lib.Signed.{le_z, lt_z, ◌≤ℤ◌, ◌<ℤ◌}
 use Rattle.integers.specs.Lists.{In}
-use Rattle.integers.specs.Tests.{if, and, any, all}
+use Rattle.integers.specs.Tests.{and, any, all}
 use Rattle.integers.proofs.Z.{z, le_z_in, lt_z_in}
 use Rattle.integers.proofs.Tests.{if-case, false_in, clash, and_first, and_second, and_in}
 use Rattle.integers.proofs.Lists.{any_in, in_any, each_in}

@@ -1,7 +1,7 @@
 -- The listed days are all that count: on any other day no task is possible, so listing only those is no choice of ours.
 use mathlib.Core.Path.{◌≡◌, ◌∙◌}
 use Prim.Native.Nat.{ℕ}
-use mathlib.Core.List.{List, ◌∷◌}
+use mathlib.Core.List.{List, [], ◌∷◌}
 use mathlib.Core.Bool.{Bool, true, false}
 use lib.IntN.{ℤ}
 use lib.Signed.{le_z, lt_z, ◌≤ℤ◌, ◌<ℤ◌}
@@ -34,6 +34,7 @@ module _ (r : ℕ) (q : ℤ → Bool) where
   -- what holds on the listed days holds on each day from the first day of one task to the end of another
   pub between : (s t : Task) (ts : List Task) → In s ts → In t ts → all q (listed_days ts) ≡ true → (i : ℤ) → first_day s ≤ℤ i → i <ℤ last_end t → q i ≡ true
   unfolding listed_days
+  between s t [] k l h i a b = elim k [ ]
   between s t (u ∷ ts) k l h i a b =
       let x = from_least i s u ts k a in
       let y = to_greatest i t u ts l b in

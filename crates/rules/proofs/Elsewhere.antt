@@ -265,10 +265,13 @@ and_then_still t ts (Kept u) (Plan us) e =
     let b : us ≡ ts = cc (e) in
     (ap Kept a, ap Plan b)
 
-pub still_each : (f : Task → Narrowed) (ts : List Task) → each f ts ≡ Plan ts → (t : Task) → In t ts → f t ≡ Kept t
+each_still : (f : Task → Narrowed) {t : Task} {ts : List Task} → In t ts → each f ts ≡ Plan ts → f t ≡ Kept t
 unfolding each
-still_each f ts e t (head {xs = us}) = (and_then_still t us (f t) (each f us) e).0
-still_each f ts e t (tail {y = u} {xs = us} k) = still_each f us (and_then_still u us (f u) (each f us) e).1 t k
+each_still f {t} (head {xs = us}) e = (and_then_still t us (f t) (each f us) e).0
+each_still f (tail {y = u} {xs = us} k) e = each_still f k (and_then_still u us (f u) (each f us) e).1
+
+pub still_each : (f : Task → Narrowed) (ts : List Task) → each f ts ≡ Plan ts → (t : Task) → In t ts → f t ≡ Kept t
+still_each f ts e t k = each_still f k e
 
 module _ (r : ℕ) (limit : Floor) (ts us : List Task) (beside : Beside r ts us) (lives : Lives ts) (still : (t : Task) → In t ts → narrowed r limit ts (listed_days ts) t ≡ Kept t) where
   each_beside : {vs ws : List Task} → Beside r vs ws → ((t : Task) → In t vs → In t ts) → ((u : Task) → In u ws → In u us) → each (narrowed r limit us (listed_days us)) ws ≡ Plan ws

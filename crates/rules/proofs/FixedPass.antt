@@ -6,7 +6,7 @@ use mathlib.Core.List.{List, [], ◌∷◌, map}
 use mathlib.Core.Bool.{true, false}
 use lib.IntN.{ℤ}
 use Rattle.integers.specs.Whole.{eq_z}
-use Rattle.integers.specs.Tests.{if, and, all}
+use Rattle.integers.specs.Tests.{if, all}
 use Rattle.integers.specs.Hull.{Range, range}
 use Rattle.integers.proofs.Z.{z, eq_z_is}
 use Rattle.integers.proofs.Tests.{clash, by_cases, four_is, and_first, and_second, and_in}

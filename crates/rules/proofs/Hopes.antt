@@ -7,7 +7,7 @@ use mathlib.Core.Bool.{Bool, true}
 use lib.IntN.{ℤ, pos, ◌+ℤ◌, ◌-ℤ◌}
 use lib.Signed.{le_z, lt_z, ◌≤ℤ◌, ◌<ℤ◌}
 use lib.Dec.{eqb}
-use Rattle.integers.specs.Tests.{if, and, any}
+use Rattle.integers.specs.Tests.{if, any}
 use Rattle.integers.specs.Lists.{In}
 use Rattle.integers.specs.Lists.In.{head, tail}
 use Rattle.integers.specs.Sums.{sum_of}
@@ -86,6 +86,7 @@ module _ (r : ℕ) (i : ℤ) where
 
   pub others_le : {t : Task} {c : Choice} {ts : List Task} {cs : List Choice} → Fit ts cs → For t c ts cs → (level r i cs -ℤ adds r i c) ≤ℤ others r ts t i
   unfolding level total sum_of others
+  others_le {t = t} {c = c} none k = elim k [ ]
   others_le (more {t} {c} {ts} {cs} h j f) here =
       let a = total_le f in
       let l = sum_of (adds r i) cs in

@@ -105,9 +105,11 @@ fit_in none = refl
 fit_in (more {t} {c} {ts} {cs} h j f) = and_in (inside t c) (inside_all ts cs) (inside_in t c h) (fit_in f)
 
 pub for_inside : {t : Task} {c : Choice} {ts : List Task} {cs : List Choice} → Fit ts cs → For t c ts cs → Inside t c
+for_inside {t = t} {c = c} none k = elim k [ ]
 for_inside (more h j f) here = h
 for_inside (more h j f) (later k) = for_inside f k
 
 pub for_joined : {t : Task} {c : Choice} {ts : List Task} {cs : List Choice} → Fit ts cs → For t c ts cs → c.origin +ℤ c.duration ≡ c.end
+for_joined {t = t} {c = c} none k = elim k [ ]
 for_joined (more h j f) here = j
 for_joined (more h j f) (later k) = for_joined f k

@@ -4,7 +4,7 @@ use mathlib.Core.Path.{◌≡◌, refl, sym, ◌∙◌, subst}
 use Prim.Native.Nat.{ℕ, ◌<◌}
 use native.Mathlib.Omega.{arith}
 use mathlib.Core.List.{List, [], ◌∷◌}
-use mathlib.Core.Bool.{true, false}
+use mathlib.Core.Bool.{true}
 use Rattle.integers.proofs.Z.{z}
 use borrow.Author.Tests.{ltb-true}
 use Rattle.integers.proofs.Tests.{if-case, false_in, same_test, and_first, and_second, and_in}

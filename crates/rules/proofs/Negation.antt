@@ -6,7 +6,7 @@ use Prim.Native.Nat.{ℕ, zero, suc, ◌+◌}
 use mathlib.Core.List.{List, [], ◌∷◌, map}
 use mathlib.Core.Bool.{not}
 use lib.IntN.{ℤ, neg_ℤ, ◌-ℤ◌, nat_abs}
-use lib.ListN.{length, get_or, length-map}
+use lib.ListN.{get_or, length-map}
 use Rattle.integers.specs.Whole.{eq_z}
 use Rattle.integers.specs.Tests.{and}
 use Rattle.integers.specs.Hull.{range, within, fits, same_range, width}

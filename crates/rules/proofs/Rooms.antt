@@ -6,7 +6,6 @@ use native.Mathlib.Omega.{arith}
 use mathlib.Core.List.{List, [], ◌∷◌}
 use mathlib.Core.Bool.{true, false, not}
 use lib.Dec.{T, eqb, leb, leb→le, nleb→lt}
-use Rattle.integers.specs.Tests.{and}
 use Rattle.integers.specs.Hull.{same_range}
 use Rattle.integers.proofs.Tests.{four_is, clash, by_cases, false_in, and_first, and_second}
 use Rattle.integers.proofs.Hull.{width_le, width_same, same_range_self, same_range_is}

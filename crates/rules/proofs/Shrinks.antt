@@ -28,7 +28,6 @@ use Rattle.rules.specs.Frame.{Frame, floor_at, Floor}
 use Rattle.rules.specs.Balance.{Outcome, and_then, each, cuts, unless_empty, balanced, balance}
 use Rattle.rules.specs.Balance.Outcome.{NoPlan, Plan}
 use Rattle.rules.specs.Step.{or_ran_out, running, shortfall, needed, barred, keeps_origin, keeps_duration, keeps_end, keeps_height, needed_set, kept_set, narrowed, listed_days, at_least_step, negated, negated_plan, negated_floor, sense_step, resource_step}
-use Rattle.rules.specs.Settle.{then}
 use Rattle.rules.proofs.Live.{Live, Lives, lives_negated}
 use Rattle.integers.specs.Lists.{Each}
 use Rattle.integers.specs.Lists.Each.{nothing, also}

@@ -49,6 +49,7 @@ module _ (r : ℕ) (i : ℤ) where
   -- one task fewer
   others_within : {t : Task} {ts : List Task} → Each Bounded ts → In t ts → (m : ℕ) × (suc m ≡ length ts) × Near (m * most_power) (others r ts t i)
   unfolding total sum_of others
+  others_within {t = t} nothing k = elim k [ ]
   others_within (also {x = t} {xs = ts} h f) head =
       let b = total_within f in
       (length ts, refl, omega (z, +z (hope r i t) (sum_of (hope r i) ts), -z (hope r i t +ℤ sum_of (hope r i) ts) (hope r i t)))

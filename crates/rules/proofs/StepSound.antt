@@ -8,7 +8,7 @@ use lib.IntN.{ℤ, pos, ◌+ℤ◌, ◌-ℤ◌}
 use lib.Signed.{le_z, lt_z, ◌≤ℤ◌, ◌<ℤ◌}
 use Rattle.integers.specs.Whole.{larger}
 use Rattle.integers.specs.Tests.{if, and, any}
-use Rattle.integers.specs.Hull.{range, within}
+use Rattle.integers.specs.Hull.{range}
 use Rattle.integers.proofs.Z.{z, +z, -z, maxz, le_z_in}
 use Rattle.integers.proofs.Tests.{by_cases, if-case, and_first, and_second, and_in, implies_in, not_in, all_in, any_out, any_none}
 use Rattle.integers.proofs.Hull.{within_is, within_in, left_in}
