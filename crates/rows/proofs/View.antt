@@ -1,7 +1,7 @@
 -- Laws of the view: its length, what stands at a place, what a store changes, and its first part. Each view maps a function over rows,
 -- so each law is one of `map`.
 use mathlib.Core.Path.{◌≡◌}
-use mathlib.Core.List.{List, [], map}
+use mathlib.Core.List.{List, []}
 use Prim.Native.Nat.{ℕ}
 use lib.IntN.{ℤ}
 use lib.ListN.{length, take, get_or, set, length-map, get_or-map}

@@ -1,6 +1,7 @@
 // The core's lists: a task stands in a row of nine numbers, a resource in a row of two, a band in a row of three, a list is a lent slice of rows.
 // Slices of rows of numbers are lent and changed in place; the view in specs/ says which tasks, resources and bands they hold.
 #![tactic(auto)]
+
 ghost use Rattle.std.specs.Prelude.{◌≡◌, ◌<◌, pos, length, get_or, set};
 ghost use Rattle.std.specs.Int.{w32, w64};
 ghost use Rattle.std.proofs.Common.{of_z};

@@ -9,9 +9,7 @@ use mir.Val.{SFits, of_z, to_z, bits}
 use mir.Facts.{to_z-of_z, Fits-of_z}
 use Rattle.plan.specs.declared.Kind.TheVariants.{Plain, Held}
 use Rattle.rows.specs.View.{id_of, kind_of}
-use borrow.Author.Rules.{rules}
-use Rattle.rows.proofs.cell_of.Statement.{statement}
-use Rattle.rows.proofs.cell_of.Tie as tie
+use Rattle.rows.proofs.cell_of.Goals as goal
 
 same : (n : ℕ) → n < 2 ^ bits w32 → n % 2 ^ bits w32 ≡ n
 same n h = omega arith
@@ -44,33 +42,12 @@ fit x f = record { sfits = omega (arith, (Fits-of_z f).fits) }
 fit-more : (x : ℤ) → SFits w32 x → SFits w64 (pos (of_z w32 x + 2 ^ bits w32))
 fit-more x f = record { sfits = omega (arith, (Fits-of_z f).fits) }
 
-bits-of-requires : tie.Need-bits-of-requires
-bits-of-requires c κs = search rules
+pub returns-in-Plain : goal.returns-in-Plain
+returns-in-Plain c = let x = c.args.x in
+    let f = c.ranges.x in
+    rw (c.bits_of-low.ensures, to_z-of_z f, to_z-of_z (fit x f)) record { named = id-plain x f; kept = kind-plain (of_z w32 x) (small x f) ∙ sym c.in-Plain.is }
 
-enum_told : tie.Need-enum-told
-enum_told c = search rules
-
-enum-told-2 : tie.Need-enum-told-2
-enum-told-2 c = search rules
-
-add-result : tie.Need-overflow-add-result
-add-result c =
-    let x = c.before.before.before.args.x in
-    let f = c.before.before.before.ranges.x in
-    rw (c.before.before.bits_of.ensures, to_z-of_z f, to_z-of_z (fit x f)) (fit-more x f)
-
-returns : tie.Need-returns
-returns c =
-    let x = c.before.before.before.args.x in
-    let f = c.before.before.before.ranges.x in
-    rw (c.before.before.bits_of.ensures, to_z-of_z f, to_z-of_z (fit x f)) (id-plain x f, kind-plain (of_z w32 x) (small x f) ∙ sym c.enum_told.given.1)
-
-returns-2 : tie.Need-returns-2
-returns-2 c =
-    let x = c.before.before.before.args.x in
-    let f = c.before.before.before.ranges.x in
-    rw (c.before.before.bits_of.ensures, to_z-of_z f, to_z-of_z (fit x f), to_z-of_z (fit-more x f)) (id-held x f, kind-held (of_z w32 x) ∙ sym c.enum-told2.given.1)
-
-pub cell-of-spec : {M : Type 1} → statement M
-cell-of-spec =
-    tie.close (tie.spec bits-of-requires enum_told enum-told-2 add-result returns returns-2)
+pub returns-in-Held : goal.returns-in-Held
+returns-in-Held c = let x = c.args.x in
+    let f = c.ranges.x in
+    rw (c.bits_of-low.ensures, to_z-of_z f, to_z-of_z (fit x f), to_z-of_z (fit-more x f)) record { named = id-held x f; kept = kind-held (of_z w32 x) ∙ sym c.in-Held.is }
