@@ -1,8 +1,2 @@
--- Lent lists of records, by hand: list laws, arrays of records in memory, calls, and the two loops, each once for any record.
+-- List laws of the loops that load and store.
 pub mod Firsts
-pub mod Rows
-pub mod Calls
-pub mod Loading
-pub mod Load
-pub mod Storing
-pub mod Store

@@ -1,5 +1,6 @@
 // Lists of records that a caller lends: their first places are copied into arrays, and back.
 #![tactic(auto)]
+
 ghost use Rattle.std.specs.Prelude.{◌≡◌, ◌≤◌, min, ◌++◌, length, take, drop};
 ghost use Rattle.plan.specs.Tasks.{most_tasks, most_resources, most_bands, no_task, no_resource, no_band};
 ghost use Rattle.copies.specs.Loaded.{loaded_tasks, loaded_resources, loaded_bands};
