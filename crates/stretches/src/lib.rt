@@ -1,6 +1,7 @@
 // Stretches of equal days in a lent slice of rows of four numbers: one after the other, what holds on each of their days; and how little a
 // task may find there before a rule touches it.
 #![tactic(auto)]
+
 ghost use Rattle.std.specs.Prelude.{◌≡◌, ◌<◌, length, get_or, set};
 ghost use Rattle.plan.specs.Powers.{power};
 ghost use Rattle.plan.specs.Tasks.{Bounded};
