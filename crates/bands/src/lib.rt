@@ -1,5 +1,6 @@
 // Refusal 13 over rows of bands: one run, each band beside the one before it.
 #![tactic(auto)]
+
 ghost use Rattle.std.specs.Prelude.{◌≡◌, ltb};
 ghost use Rattle.std.specs.Int.Signed.{lt_z};
 ghost use Rattle.integers.specs.Hull.{within};
