@@ -1,11 +1,16 @@
 // The planning program: a plan file on standard input, settled; its text on standard output.
 #![tactic(auto)]
-use report::MOST_READ;
 
-fn main() {
+use report::MOST_READ;
+use std::io;
+
+// Room for the longest text.
+const TEXT_ROOM: usize = 1 << 16;
+
+fn main(rt: HostRuntime) -> io::Result<()> {
     let mut file = [0u8; MOST_READ];
-    let n = io::read_full(0, &mut file);
-    let mut out = io::large_buffer();
+    let n = input::read_full(&mut rt.stdin(), &mut file)?;
+    let mut out = [0u8; TEXT_ROOM];
     let r = report::report(&file[..n], &mut out);
-    io::write_all(1, &out[..r]);
+    rt.write_all(&out[..r])
 }

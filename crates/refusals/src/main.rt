@@ -1,21 +1,15 @@
 // One input for each refusal of the entry checks, the page's number and place of each on a line; where two faults meet, the one that
 // comes first in the page's order.
 #![tactic(auto)]
+
 use plan::Checked;
 use rows::{BandRow, ResourceRow, TaskRow};
+use std::io;
 
-fn show(e: Checked) {
+fn show(rt: &impl Print, e: Checked) -> io::Result<()> {
     match e {
-        Checked::Accepted => {
-            io::write_all(1, b"accepted\n");
-        }
-        Checked::Refused(f) => {
-            io::write_all(1, b"refused ");
-            io::print_decimal(1, f.number());
-            io::write_all(1, b" ");
-            io::print_decimal(1, f.place() as u64);
-            io::write_all(1, b"\n");
-        }
+        Checked::Accepted => println!(rt; "accepted"),
+        Checked::Refused(f) => println!(rt; "refused {} {}", f.number(), f.place()),
     }
 }
 
@@ -39,69 +33,78 @@ fn bands() -> [BandRow; 2] {
 
 // ---- one list as given, the others as above
 
-fn show_resources(q: &[ResourceRow]) {
+fn show_resources(rt: &impl Print, q: &[ResourceRow]) -> io::Result<()> {
     let b = bands();
     let s = tasks();
-    show(entry::check(q, &b, &s));
+    show(rt, entry::check(q, &b, &s))
 }
 
-fn show_bands(b: &[BandRow]) {
+fn show_bands(rt: &impl Print, b: &[BandRow]) -> io::Result<()> {
     let q = resources();
     let s = tasks();
-    show(entry::check(&q, b, &s));
+    show(rt, entry::check(&q, b, &s))
 }
 
-fn show_tasks(s: &[TaskRow]) {
+fn show_tasks(rt: &impl Print, s: &[TaskRow]) -> io::Result<()> {
     let q = resources();
     let b = bands();
-    show(entry::check(&q, &b, s));
+    show(rt, entry::check(&q, &b, s))
 }
 
 // As many as are counted, whatever the rows hold.
-fn show_counts(task_count: usize, resource_count: usize, band_count: usize, b: &[BandRow]) {
+fn show_counts(
+    rt: &impl Print,
+    task_count: usize,
+    resource_count: usize,
+    band_count: usize,
+    b: &[BandRow],
+) -> io::Result<()> {
     let q = resources();
     let s = tasks();
-    show(entry::check_lists(task_count, resource_count, band_count, &q, b, &s));
+    show(
+        rt,
+        entry::check_lists(task_count, resource_count, band_count, &q, b, &s),
+    )
 }
 
 // Refusals 1 and 2: too many tasks, then too few and too many resources; both faults together are 1.
-fn counts() {
+fn counts(rt: &impl Print) -> io::Result<()> {
     let b = bands();
-    show_bands(&b);
-    show_counts(plan::MOST_TASKS + 1, 2, 2, &b);
-    show_counts(plan::MOST_TASKS + 1, 0, 2, &b);
+    show_bands(rt, &b)?;
+    show_counts(rt, plan::MOST_TASKS + 1, 2, 2, &b)?;
+    show_counts(rt, plan::MOST_TASKS + 1, 0, 2, &b)?;
     let q = resources();
-    show_resources(&q[..0]);
+    show_resources(rt, &q[..0])?;
     let many: [ResourceRow; plan::MOST_RESOURCES + 1] = [[7, 4]; plan::MOST_RESOURCES + 1];
-    show_resources(&many);
+    show_resources(rt, &many)
 }
 
 // Refusals 3 and 4: an identifier repeats, a limit is outside; the identifiers come first, over all resources.
-fn limits() {
+fn limits(rt: &impl Print) -> io::Result<()> {
     let twice: [ResourceRow; 3] = [[7, 4], [9, 3], [7 + HELD, 5]];
-    show_resources(&twice);
+    show_resources(rt, &twice)?;
     let above: [ResourceRow; 2] = [[7, 4], [9, 1_000_001]];
-    show_resources(&above);
+    show_resources(rt, &above)?;
     let both: [ResourceRow; 2] = [[7, -1_000_001], [7, 3]];
-    show_resources(&both);
+    show_resources(rt, &both)
 }
 
 // Refusal 13: a band that starts on the day of the one before it, or stands at a lower place, lies outside its ends, or names no resource.
-fn levels() {
+fn levels(rt: &impl Print) -> io::Result<()> {
     let twice: [BandRow; 2] = [[0, 2, 5], [0, 2, 1]];
-    show_bands(&twice);
+    show_bands(rt, &twice)?;
     let back: [BandRow; 3] = [[0, 2, 5], [1, 2, 5], [0, 4, 1]];
-    show_bands(&back);
+    show_bands(rt, &back)?;
     let early: [BandRow; 2] = [[0, -100_001, 5], [0, 4, 1]];
-    show_bands(&early);
+    show_bands(rt, &early)?;
     let late: [BandRow; 2] = [[0, 100_000, 5], [1, 100_001, 1]];
-    show_bands(&late);
+    show_bands(rt, &late)?;
     let below: [BandRow; 2] = [[0, 2, -1_000_001], [0, 4, 1]];
-    show_bands(&below);
+    show_bands(rt, &below)?;
     let above: [BandRow; 2] = [[0, 2, 1_000_000], [0, 4, 1_000_001]];
-    show_bands(&above);
+    show_bands(rt, &above)?;
     let nowhere: [BandRow; 3] = [[0, 2, 5], [1, 2, 5], [2, 2, 5]];
-    show_bands(&nowhere);
+    show_bands(rt, &nowhere)
 }
 
 // One band more than there may be, each a day after the one before.
@@ -116,46 +119,46 @@ fn many_bands() -> [BandRow; plan::MOST_BANDS + 1] {
 }
 
 // Refusal 13: a 65th band, in rows or only counted; behind one that is out of order, that one.
-fn many_levels() {
+fn many_levels(rt: &impl Print) -> io::Result<()> {
     let many = many_bands();
-    show_bands(&many[..plan::MOST_BANDS]);
-    show_bands(&many);
-    show_counts(2, 2, plan::MOST_BANDS + 1, &many[..plan::MOST_BANDS]);
+    show_bands(rt, &many[..plan::MOST_BANDS])?;
+    show_bands(rt, &many)?;
+    show_counts(rt, 2, 2, plan::MOST_BANDS + 1, &many[..plan::MOST_BANDS])?;
     let mut crossed = many;
     crossed[3] = [0, 2, 5];
-    show_bands(&crossed);
+    show_bands(rt, &crossed)
 }
 
 // Two faults: 4 before 13, and 13 before 5.
-fn meetings() {
+fn meetings(rt: &impl Print) -> io::Result<()> {
     let twice: [BandRow; 2] = [[0, 2, 5], [0, 2, 1]];
     let above: [ResourceRow; 2] = [[7, 4], [9, 1_000_001]];
-    show(entry::check(&above, &twice, &tasks()));
+    show(rt, entry::check(&above, &twice, &tasks()))?;
     let crossed: [TaskRow; 2] = [[1, 2, 1, 2, 2, 3, 4, 0, 1], [3, 0, 6, 2, 2, 2, 8, 0, 4]];
-    show(entry::check(&resources(), &twice, &crossed));
+    show(rt, entry::check(&resources(), &twice, &crossed))
 }
 
 // Refusals 5 and 6: a range outside its ends or the wrong way round, a set that is empty or names a place beyond the list; task by
 // task, 5 before 6.
-fn ranges() {
+fn ranges(rt: &impl Print) -> io::Result<()> {
     let outside: [TaskRow; 2] = [
         [1, 1, 2, 2, 2, 3, 4, 0, 1],
         [3, 0, 6, 2, 10_001, 2, 8, 0, 4],
     ];
-    show_tasks(&outside);
+    show_tasks(rt, &outside)?;
     let crossed: [TaskRow; 2] = [[0, 2, 1, 2, 2, 3, 4, 0, 1], [3, 0, 6, 2, 2, 2, 8, 0, 4]];
-    show_tasks(&crossed);
+    show_tasks(rt, &crossed)?;
     let nowhere: [TaskRow; 2] = [[1, 1, 2, 2, 2, 3, 4, 0, 1], [0, 0, 6, 2, 2, 2, 8, 0, 4]];
-    show_tasks(&nowhere);
+    show_tasks(rt, &nowhere)?;
     let beyond: [TaskRow; 2] = [[4, 1, 2, 2, 2, 3, 4, 0, 1], [3, 6, 0, 2, 2, 2, 8, 0, 4]];
-    show_tasks(&beyond);
+    show_tasks(rt, &beyond)
 }
 
-fn main() {
-    counts();
-    limits();
-    levels();
-    many_levels();
-    meetings();
-    ranges();
+fn main(rt: HostRuntime) -> io::Result<()> {
+    counts(&rt)?;
+    limits(&rt)?;
+    levels(&rt)?;
+    many_levels(&rt)?;
+    meetings(&rt)?;
+    ranges(&rt)
 }
