@@ -1,4 +1,4 @@
--- The outer calls over lent lists, walked by hand, each without a word of what the core does.
+-- The outer calls over lent lists, each without a word of what its core does.
 pub mod Applying
 pub mod Reading
 pub mod Writing

@@ -1,3 +1,2 @@
-// The walks of outer calls over lent lists stand in proofs/: there is no code here. They are dear to check and change seldom, so they
-// stand apart from the calls whose must-fail edits prove their crate again.
+// What an outer call over lent lists amounts to, told in proofs/ without a word of what its core does: there is no code here.
 #![tactic(auto)]
