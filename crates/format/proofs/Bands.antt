@@ -1,7 +1,7 @@
 -- Laws of a run of bands, which is read by its marks: an accepted run is so many due records, no more than there is room for and than a
 -- plan may have; the bands of an accepted plan are such a run; and only how many there are decides whether a list has room.
 use mathlib.Core.Path.{◌≡◌, refl}
-use mathlib.Core.Bool.{true, false, not}
+use mathlib.Core.Bool.{false, not}
 use mathlib.Core.List.{List, [], ◌∷◌, ◌++◌, append_assoc}
 use Prim.Native.Nat.{ℕ, zero, suc, ◌+◌, ◌≤◌, ◌<◌}
 use native.Mathlib.Omega.{arith}

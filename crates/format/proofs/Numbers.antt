@@ -80,4 +80,4 @@ bytes_split (suc m) n x =
 
 -- ---- a signed number of four bytes in a cell of eight
 pub widened : (x : ℤ) → SFits w32 x → to_z w64 (of_z w64 (to_z w32 (of_z w32 x))) ≡ x
-widened x f = rw (to_z-of_z f) (to_z-of_z (sfits_widen {w = w32} tt f))
+widened x f = rw (to_z-of_z f) (to_z-of_z {w = w64} (sfits_widen {w = w32} {w' = w64} tt f))

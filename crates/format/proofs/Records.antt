@@ -9,7 +9,7 @@ use native.Mathlib.Nat.{not-suc-le-zero, le_of_suc-le-suc, suc-mul, zero-mul, ad
 use lib.Dec.{eqb, ltb}
 use lib.ListN.{length, get_or, take, drop, length-append, length-drop}
 use lib.Seq.{length-take-le, take_at, drop_at, drop-drop, take-add}
-use borrow.Author.Tests.{ltb-false, le-ltb, eqb_true, not-false}
+use borrow.Author.Tests.{ltb-false, le-ltb, eqb-true, not-false}
 use Rattle.integers.specs.Lists.{Each}
 use Rattle.integers.specs.Lists.Each.{nothing, also}
 use Rattle.integers.proofs.Tests.{by_cases, and_first, and_second}
@@ -110,8 +110,8 @@ marked_two (a ∷ []) k l m = absurd (not-suc-le-zero (le_of_suc-le-suc l))
 marked_two (a ∷ b ∷ bs) k l m =
     let s = eqb a (get_or (mark k) 0 0) in
     let t = eqb b (get_or (mark k) 1 0) in
-    let p : a ≡ get_or (mark k) 0 0 = eqb_true a (get_or (mark k) 0 0) (and_first s t m) in
-    let q : b ≡ get_or (mark k) 1 0 = eqb_true b (get_or (mark k) 1 0) (and_second s t m) in
+    let p : a ≡ get_or (mark k) 0 0 = eqb-true a (get_or (mark k) 0 0) (and_first s t m) in
+    let q : b ≡ get_or (mark k) 1 0 = eqb-true b (get_or (mark k) 1 0) (and_second s t m) in
     rw (p, q) (mark_pair k)
 
 pub length_record : (k : Mark) (ns : List ℕ) → length ns ≡ length (widths k) → length (record_bytes k ns) ≡ size k

@@ -1,5 +1,6 @@
 // The plan file's format: its marks, records and fields, what reading and writing answer, and the laws of what is written and read.
 #![tactic(auto)]
+
 ghost use Rattle.format.specs.Numbers.{Byte};
 ghost use Rattle.format.specs.Writing.{Identified};
 
@@ -9,7 +10,7 @@ pub mod table;
 use plan::{Refusal, Resource, Sense};
 
 // The five marks, in a file's order; "a held resource has mark RH in place of RS".
-#[derive(Drop)]
+#[derive(Clone, Copy)]
 pub enum Mark {
     PL,
     RS,
@@ -19,7 +20,7 @@ pub enum Mark {
 }
 
 // What a PL record holds: the sense byte and the two counts.
-#[derive(Drop)]
+#[derive(Clone, Copy)]
 pub struct Header {
     pub sense: u8,
     pub resources: usize,
@@ -27,28 +28,28 @@ pub struct Header {
 }
 
 // What reading a PL record answers: what it holds, or one refusal.
-#[derive(Drop)]
+#[derive(Clone, Copy)]
 pub enum HeaderAnswer {
     Counts(Header),
     Refused(Refusal),
 }
 
 // What reading the run of bands answers: how many there are, or one refusal.
-#[derive(Drop)]
+#[derive(Clone, Copy)]
 pub enum Run {
     Through(usize),
     Refused(Refusal),
 }
 
 // What the reader answers: the sense and how many resources, bands and tasks there are, or one refusal.
-#[derive(Drop)]
+#[derive(Clone, Copy)]
 pub enum ReadAnswer {
     Plan(Sense, usize, usize, usize),
     Refused(Refusal),
 }
 
 // What the writer answers: how many bytes it wrote, or one refusal.
-#[derive(Drop)]
+#[derive(Clone, Copy)]
 pub enum WriteAnswer {
     Written(usize),
     Refused(Refusal),
