@@ -56,9 +56,9 @@ module _ (r : ℕ) where
   extremes_over e [] = omega z
   extremes_over e (t ∷ ts) = let p = joined_over e t in let q = extremes_over (joined r e t) ts in omega z
 
-  pub extremes_cover : (e : Extremes) {t : Task} {ts : List Task} → In t ts → has t.set r ≡ true → Covers (extremes_of r e ts) t
+  pub extremes_cover : {t : Task} (e : Extremes) {ts : List Task} → In t ts → has t.set r ≡ true → Covers (extremes_of r e ts) t
   unfolding extremes_of
-  extremes_cover e {t} (head {xs = ts}) g = let p = joined_covers e t g in let q = extremes_over (joined r e t) ts in omega z
+  extremes_cover {t} e (head {xs = ts}) g = let p = joined_covers e t g in let q = extremes_over (joined r e t) ts in omega z
   extremes_cover e (tail {y = u} k) g = extremes_cover (joined r e u) k g
 
   abbrev pub reach_of : Extremes → Range

@@ -1,6 +1,7 @@
 // One resource's tasks as events: each task that may stand there gives at most four, an event being a day and what changes from that
 // day on, packed into one key that rises with the day; and the extremes of those tasks. Cost: one run over the tasks.
 #![tactic(auto)]
+
 ghost use Rattle.std.specs.Prelude.{◌≡◌, ◌+◌, ◌*◌, ◌≤◌, ◌<◌, pos, neg_ℤ, ◌+ℤ◌, ◌-ℤ◌, nat_abs, length, get_or, ◌≤ℤ◌};
 ghost use Rattle.std.specs.Int.Signed.{lt_z};
 ghost use Rattle.std.specs.Int.{w64};
@@ -18,7 +19,7 @@ use plan::{Day, Power, Task};
 use rows::TaskRow;
 
 // How many things make a day count, sure tasks or a held resource's span, or a change of that number.
-#[derive(Drop)]
+#[derive(Clone, Copy)]
 pub struct Count(pub i64);
 
 impl Count {
@@ -95,7 +96,7 @@ pub fn sure_of(k: u64) -> Count
 // ---- events
 
 // From the first day on more power and more that makes a day count, sure tasks or a held resource's span, from the last day on as much less again.
-#[derive(Drop)]
+#[derive(Clone, Copy)]
 pub struct Change {
     pub from: Day,
     pub to: Day,
@@ -206,7 +207,7 @@ fn put_events(keys: &mut [u64], n: usize, t: Task, r: u64) -> usize
 // ---- extremes
 
 // The days between which the tasks of a resource may be under way, and the most slack below which a rule may touch one: a bar, a lift.
-#[derive(Drop)]
+#[derive(Clone, Copy)]
 pub struct Extremes {
     pub low: Day,
     pub high: Day,
@@ -245,7 +246,7 @@ fn no_extremes() -> Extremes
 // ---- both, for every task
 
 // How many events there are, and the extremes of their tasks.
-#[derive(Drop)]
+#[derive(Clone, Copy)]
 pub struct Collected {
     pub events: usize,
     pub extremes: Extremes,
