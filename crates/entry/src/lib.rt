@@ -1,5 +1,6 @@
 // The entry checks, refusals 1 to 4, 13, 5 and 6 in the page's order, over rows of any numbers and of any length.
 #![tactic(auto)]
+
 ghost use Rattle.std.specs.Prelude.{◌≡◌, [], ◌<◌, length};
 ghost use Rattle.integers.specs.Hull.{fits};
 ghost use Rattle.integers.specs.Whole.{eq_z};

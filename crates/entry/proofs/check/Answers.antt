@@ -5,26 +5,17 @@ use lib.Seq.{length-take-le, take_all}
 use Rattle.plan.specs.Tasks.{most_bands}
 use Rattle.rows.specs.View.{frame_of, tasks_of, bands_of}
 use Rattle.rows.proofs.View.{length_resources, length_bands, length_tasks, bands_take}
-use borrow.Author.Rules.{rules}
-use Rattle.entry.proofs.check.Statement.{statement}
-use Rattle.entry.proofs.check.Tie as tie
+use Rattle.entry.proofs.check.Goals as goal
 
-slice-aggregate-check-lists : tie.Need-slice-aggregate-check-lists
-slice-aggregate-check-lists c = sym (length-take-le most_bands c.before.before.args.b.now (omega arith))
+pub slice_bounds-check_lists-end : goal.slice_bounds-check_lists-end
+slice_bounds-check_lists-end c = sym (length-take-le most_bands c.args.b.now (omega arith))
 
-check-lists-requires : tie.Need-check-lists-requires
-check-lists-requires c κs = search rules
-
-check-lists-requires-2 : tie.Need-check-lists-requires-2
-check-lists-requires-2 c κs = search rules
-
-returns : tie.Need-returns
-returns c sense =
-    let a = c.before.before.before.args in
+pub returns-then-b-gt-MOST_BANDS : goal.returns-then-b-gt-MOST_BANDS
+returns-then-b-gt-MOST_BANDS c sense = let a = c.args in
     let q = a.q.now in
     let b = a.b.now in
     let s = a.s.now in
-    c.check-lists.ensures (frame_of sense q b) (tasks_of s)
+    c.check_lists.ensures (frame_of sense q b) (tasks_of s)
     (record {
       resources_many = length_resources q;
       bands_many = length_bands b;
@@ -34,13 +25,12 @@ returns c sense =
       tasks_held = λ h. refl;
     })
 
-returns-2 : tie.Need-returns-2
-returns-2 c sense =
-    let a = c.before.before.args in
+pub returns-else-b-gt-MOST_BANDS : goal.returns-else-b-gt-MOST_BANDS
+returns-else-b-gt-MOST_BANDS c sense = let a = c.args in
     let q = a.q.now in
     let b = a.b.now in
     let s = a.s.now in
-    c.check-lists2.ensures (frame_of sense q b) (tasks_of s)
+    c.check_lists-else-b-gt-MOST_BANDS.ensures (frame_of sense q b) (tasks_of s)
     (record {
       resources_many = length_resources q;
       bands_many = length_bands b;
@@ -49,6 +39,3 @@ returns-2 c sense =
       bands_held = sym (take_all most_bands (bands_of b) (omega (arith, length_bands b)));
       tasks_held = λ h. refl;
     })
-
-pub check-spec : {M : Type 1} → statement M
-check-spec = tie.close (tie.spec slice-aggregate-check-lists check-lists-requires check-lists-requires-2 returns returns-2)
