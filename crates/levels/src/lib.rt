@@ -1,6 +1,7 @@
 // A resource's bands as changes of its limit: the limit on the first of the days that its tasks have, and a key for each later of those
 // days on which the limit is another. Cost: one run over the bands.
 #![tactic(auto)]
+
 ghost use Rattle.std.specs.Prelude.{◌≡◌, true, [], ◌∷◌, ◌+◌, ◌≤◌, ◌<◌, eqb, length};
 ghost use Rattle.std.specs.Int.Signed.{le_z};
 ghost use Rattle.integers.specs.Tests.{if, all};
@@ -17,7 +18,7 @@ use plan::{Band, Day, Power};
 use rows::BandRow;
 
 // How many keys there are, the limit on the first day, and the limit of the last band so far.
-#[derive(Drop)]
+#[derive(Clone, Copy)]
 pub struct Levels {
     pub events: usize,
     pub start: Power,
