@@ -5,7 +5,6 @@ use mathlib.Core.List.{List}
 use Prim.Native.Nat.{ℕ}
 use lib.IntN.{ℤ}
 use lib.Signed.{lt_z}
-use Rattle.integers.specs.Tests.{and}
 use Rattle.integers.proofs.Z.{z}
 use Rattle.integers.proofs.Tests.{clash, false_in, or_first, or_second, and_off}
 use Rattle.plan.specs.declared.Task.{Task}

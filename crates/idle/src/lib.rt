@@ -1,6 +1,7 @@
 // Which resources' steps would change nothing: the lively tasks and where they may stand; and the laws of the mask, which saves steps and is no
 // part of any answer.
 #![tactic(auto)]
+
 ghost use Rattle.std.specs.Prelude.{◌≡◌, true, false, ◌-◌, ◌^◌};
 ghost use Rattle.integers.specs.Tests.{if};
 ghost use Rattle.plan.specs.Sets.{union};
@@ -12,7 +13,7 @@ use plan::Task;
 use rows::TaskRow;
 
 // What steps have done so far: a plan is left, something changed, and which resources may still change something.
-#[derive(Drop)]
+#[derive(Clone, Copy)]
 pub struct Passed {
     pub ok: bool,
     pub changed: bool,
