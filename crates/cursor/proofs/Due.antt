@@ -1,19 +1,14 @@
 -- What is due, told from what the cursor hands out: one law for every mark.
 use mathlib.Core.Path.{◌≡◌, refl, sym, ap, ◌∙◌, subst}
-use mathlib.Core.Bool.{true, false, not}
+use mathlib.Core.Bool.{true, false}
 use mathlib.Core.List.{List, [], ◌∷◌}
 use Prim.Native.Nat.{ℕ, ◌+◌, ◌-◌, ◌≤◌, ◌<◌}
 use native.Mathlib.Nat.{not-suc-le-zero, le_of_suc-le-suc}
 use native.Mathlib.Omega.{arith}
-use lib.Dec.{T, eqb, ltb}
+use lib.Dec.{eqb, ltb}
 use lib.ListN.{length, get_or, take, drop, length-drop, drop_of_length-le}
 use lib.Seq.{take_all}
-use mir.Val.{has_key}
-use borrow.Author.Tests.{eqb_true, le-ltb, ltb-true, ltb-false}
-use types.Run.{OneOf, miss}
-use denote.Enum.Declared
-use Rattle.format.specs.contracts.Mark as Mark'
-use Rattle.cursor.specs.contracts.Record as Record'
+use borrow.Author.Tests.{eqb-true, le-ltb, ltb-true, ltb-false}
 use Rattle.integers.specs.Tests.{if}
 use Rattle.integers.proofs.Tests.{clash, by_cases, and_first, and_second, and_off}
 use Rattle.plan.specs.declared.Checked.{Checked}
@@ -53,7 +48,7 @@ unfolding marked
 pairs_same bs k m =
     let s = eqb (get_or bs 0 0) (get_or (mark k) 0 0) in
     let t = eqb (get_or bs 1 0) (get_or (mark k) 1 0) in
-    (eqb_true (get_or bs 0 0) (get_or (mark k) 0 0) (and_first s t m), eqb_true (get_or bs 1 0) (get_or (mark k) 1 0) (and_second s t m))
+    (eqb-true (get_or bs 0 0) (get_or (mark k) 0 0) (and_first s t m), eqb-true (get_or bs 1 0) (get_or (mark k) 1 0) (and_second s t m))
 
 -- where one mark stands, another does if it is the same
 pub stands : (j k : Mark) (bs : List ℕ) → marked j bs ≡ true → marked k bs ≡ same_mark j k
@@ -139,14 +134,6 @@ kind_told Held at bs = refl
 
 pub resource_told : (k : Mark) → kind_mark (kind_from k) ≡ k → (at : ℕ) (bs : List ℕ) → ResourceTold at bs k
 resource_told k e at bs = subst (ResourceTold at bs) e (kind_told (kind_from k) at bs)
-
--- every mark but these three is that of a kind
-pub kind_known : (k : Mark) (ks : List ℕ) → T (not (has_key ks 0)) → T (not (has_key ks 3)) → T (not (has_key ks 4)) → OneOf ks (Declared.tag_of Mark'.the_type k) → kind_mark (kind_from k) ≡ k
-kind_known PL ks a b c o = absurd (miss ks 0 a o)
-kind_known RS ks a b c o = refl
-kind_known RH ks a b c o = refl
-kind_known LB ks a b c o = absurd (miss ks 3 b o)
-kind_known TK ks a b c o = absurd (miss ks 4 c o)
 
 -- ---- "each caller takes the record it is due and turns every other answer into the refusal"
 -- a whole record under such a mark
@@ -237,7 +224,29 @@ same_tag j k s =
     ∙ by_cases (marked (in_place_of k) (mark j)) (λ e. rw e (place_tag k)) (λ e. rw e)
 
 abbrev tag_of : Record → ℕ
-tag_of r = Declared.tag_of Record'.the_type r
+tag_of (Record.Plan h c) = 0
+tag_of (Record.Resource q c) = 1
+tag_of (Record.Band b c) = 2
+tag_of (Record.Task t c) = 3
+tag_of (Record.CutShort k) = 4
+tag_of Record.NoMark = 5
+tag_of Record.Ended = 6
+
+-- an answer that holds no whole record of such a mark
+abbrev pub Other : Mark → Record → Type 0
+Other PL r = (h : Header) (c : Cursor) → r ≡ Record.Plan h c → ⊥
+Other RS r = (q : Resource) (c : Cursor) → r ≡ Record.Resource q c → ⊥
+Other RH r = (q : Resource) (c : Cursor) → r ≡ Record.Resource q c → ⊥
+Other LB r = (b : Band) (c : Cursor) → r ≡ Record.Band b c → ⊥
+Other TK r = (t : Task) (c : Cursor) → r ≡ Record.Task t c → ⊥
+
+other_tag : (k : Mark) (r : Record) → Other k r → tag_of r ≡ tag k → ⊥
+other_tag PL (Record.Plan h c) n e = n h c refl
+other_tag RS (Record.Resource q c) n e = n q c refl
+other_tag RH (Record.Resource q c) n e = n q c refl
+other_tag LB (Record.Band b c) n e = n b c refl
+other_tag TK (Record.Task t c) n e = n t c refl
+other_tag k r n e = omega arith
 
 kind_tag : (x : Kind) → tag (kind_mark x) ≡ 1
 kind_tag Plain = refl
@@ -256,25 +265,15 @@ module _ (k : Mark) (at : ℕ) where
   not_mine Record.NoMark n = refl
   not_mine Record.Ended n = refl
 
--- every answer but these two is refused for its mark
-pub wrong_mark : (k : Mark) (at : ℕ) (r : Record) (ks : List ℕ) → T (not (has_key ks 4)) → T (not (has_key ks 6)) → OneOf ks (tag_of r) → WrongMark at ≡ not_due k at r
-wrong_mark k at (Record.Plan h c) ks a b o = refl
-wrong_mark k at (Record.Resource q c) ks a b o = refl
-wrong_mark k at (Record.Band x c) ks a b o = refl
-wrong_mark k at (Record.Task t c) ks a b o = refl
-wrong_mark k at (Record.CutShort j) ks a b o = absurd (miss ks 4 a o)
-wrong_mark k at Record.NoMark ks a b o = refl
-wrong_mark k at Record.Ended ks a b o = absurd (miss ks 6 b o)
-
 -- every answer but a whole record leaves the place
-pub stays_there : (at : ℕ) (r : Record) (ks : List ℕ) → T (not (has_key ks 0)) → T (not (has_key ks 1)) → T (not (has_key ks 2)) → T (not (has_key ks 3)) → OneOf ks (tag_of r) → at ≡ past_in at r
-stays_there at (Record.Plan h x) ks a b c d o = absurd (miss ks 0 a o)
-stays_there at (Record.Resource q x) ks a b c d o = absurd (miss ks 1 b o)
-stays_there at (Record.Band y x) ks a b c d o = absurd (miss ks 2 c o)
-stays_there at (Record.Task t x) ks a b c d o = absurd (miss ks 3 d o)
-stays_there at (Record.CutShort k) ks a b c d o = refl
-stays_there at Record.NoMark ks a b c d o = refl
-stays_there at Record.Ended ks a b c d o = refl
+pub stays_there : (at : ℕ) (r : Record) → Other PL r → Other RS r → Other LB r → Other TK r → at ≡ past_in at r
+stays_there at (Record.Plan h x) a b c d = absurd (a h x refl)
+stays_there at (Record.Resource q x) a b c d = absurd (b q x refl)
+stays_there at (Record.Band y x) a b c d = absurd (c y x refl)
+stays_there at (Record.Task t x) a b c d = absurd (d t x refl)
+stays_there at (Record.CutShort k) a b c d = refl
+stays_there at Record.NoMark a b c d = refl
+stays_there at Record.Ended a b c d = refl
 
 -- ---- an answer taken, and an answer refused
 kind_due : (x : Kind) (at : ℕ) → whole_due RS at (kind_mark x) ≡ Accepted
@@ -310,6 +309,5 @@ module _ (at : ℕ) (bs : List ℕ) {r : Record} (e : r ≡ handed at bs) where
   unfolding due_in marked
   task_taken {c} g = let w = taken TK (ap (as_due TK at) g) in let x = sym g ∙ w.1 ∙ alone_in TK at bs refl in let e : c ≡ cursor (at + size TK) = cc in (w.0, cc, ap (λ (y : Cursor). y.at) e)
 
-  pub refused : (k : Mark) (ks : List ℕ) → T (not (has_key ks (tag k))) → OneOf ks (tag_of r) → due (due_in k bs) at bs ≡ Refused (not_due k at r)
-  refused k ks h o =
-      due_handed k at bs ∙ ap (as_due k at) (sym e) ∙ not_mine k at r (λ x. miss ks (tag k) h (subst (λ (y : ℕ). OneOf ks y) x o))
+  pub refused : (k : Mark) → Other k r → due (due_in k bs) at bs ≡ Refused (not_due k at r)
+  refused k n = due_handed k at bs ∙ ap (as_due k at) (sym e) ∙ not_mine k at r (other_tag k r n)

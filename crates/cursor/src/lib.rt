@@ -1,5 +1,6 @@
 // A cursor stands in the lent file bytes and hands out one record after another: a place by value on the bytes.
 #![tactic(auto)]
+
 ghost use Rattle.std.specs.Prelude.{◌≡◌, false, [], ◌∷◌, ◌+◌, ◌≤◌, ◌<◌, ◌^◌, ltb, length, drop};
 ghost use Rattle.integers.specs.Tests.{if};
 ghost use Rattle.format.specs.declared.Mark.TheVariants.{PL, RS, LB, TK};
@@ -12,14 +13,14 @@ use format::{Header, Mark, table};
 use plan::{Band, Day, Power, Refusal, Resource, Task};
 
 // A place in the lent file bytes.
-#[derive(Drop)]
+#[derive(Clone, Copy)]
 pub struct Cursor {
     pub at: usize,
 }
 
 // What stands at a cursor: a whole record with the cursor past it, a record that is longer than the rest, two bytes that are no
 // mark, or fewer than two bytes.
-#[derive(Drop)]
+#[derive(Clone, Copy)]
 pub enum Record {
     Plan(Header, Cursor),
     Resource(Resource, Cursor),

@@ -5,5 +5,6 @@ use Rattle.format.proofs.fields.put_four.Goals as goal
 
 pub returns : goal.returns
 unfolding beyond
-returns c = let a = c.args in
+returns c =
+    let a = c.args in
     cc (put_parts 2 2 a.b.now a.at a.n, c.put_two.ensures, c.put_two-2.ensures)
