@@ -1,4 +1,3 @@
 -- Laws of the reader.
-pub mod Held
 pub mod Unique
 pub mod Walking

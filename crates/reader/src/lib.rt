@@ -1,13 +1,14 @@
 // "A reader stands in the lent file bytes and hands out one record after another": it holds the bytes and its place in them.
 // Each of its functions takes it apart for the cursor by value, which stands on the same bytes.
 #![tactic(auto)]
+
 ghost use Rattle.std.specs.Prelude.{◌≡◌};
 ghost use Rattle.cursor.specs.Handed.{record_at, past_at};
 
 use cursor::{Cursor, Record};
 use format::Mark;
 
-#[derive(Drop)]
+#[derive(Clone, Copy)]
 pub struct Reader<'a> {
     pub file: &'a [u8],
     pub at: usize,
