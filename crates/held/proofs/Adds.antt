@@ -18,7 +18,6 @@ use Rattle.plan.specs.declared.Kind.{Kind}
 use Rattle.plan.specs.declared.Kind.TheVariants.{Plain, Held}
 use Rattle.plan.specs.declared.Span.{Span}
 use Rattle.plan.specs.declared.Task.{Task}
-use Rattle.plan.specs.Sets.{has}
 use Rattle.plan.specs.Tasks.{Bounded}
 use Rattle.plan.proofs.Sets.{only_has}
 use Rattle.rules.specs.Frame.{floor}

@@ -1,6 +1,7 @@
 // The days that count on a held resource as one change more among its events: "a held day counts when one task with only that resource has origin
 // high <= day and one such task has end low > day", which is one span over those tasks. Cost: one run over the tasks, of a held resource only.
 #![tactic(auto)]
+
 ghost use Rattle.std.specs.Prelude.{◌≡◌, ◌+◌, ◌≤◌, ◌<◌, length};
 ghost use Rattle.integers.specs.Lists.{Each};
 ghost use Rattle.plan.specs.Sets.{set_bits};
