@@ -1,5 +1,6 @@
 // A plan at most as the steps work on it, at least: its rows negated on entry, and back.
 #![tactic(auto)]
+
 ghost use Rattle.std.specs.Prelude.{◌≡◌, true, map};
 ghost use Rattle.integers.specs.Lists.{Each};
 ghost use Rattle.integers.specs.Tests.{all};
