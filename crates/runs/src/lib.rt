@@ -1,5 +1,6 @@
 // The run of bands in a plan file, as many as there are marks, read into lent rows: no count of them stands in the file.
 #![tactic(auto)]
+
 ghost use Rattle.std.specs.Prelude.{length};
 ghost use Rattle.rows.specs.View.{bands_of};
 ghost use Rattle.format.specs.Reading.{ReadBands, RunWithin};
