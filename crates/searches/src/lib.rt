@@ -2,6 +2,7 @@
 // no day hits, the longest duration, the least slack, the first and the last needed day, how many stretches begin before a day.
 // Cost: the stretches, once for each search (of those that begin before a day, by halves); no loop runs over days.
 #![tactic(auto)]
+
 ghost use Rattle.std.specs.Prelude.{◌≡◌, not, ◌≤◌, pos, ◌≤ℤ◌, length};
 ghost use Rattle.std.specs.Int.Signed.{lt_z};
 ghost use Rattle.integers.specs.Tests.{and};
@@ -16,7 +17,7 @@ use plan::{Day, Power, Span};
 use stretches::{Stretch, StretchRow};
 
 // The days from .. to - 1.
-#[derive(Drop)]
+#[derive(Clone, Copy)]
 pub struct Days {
     pub from: Day,
     pub to: Day,
@@ -46,7 +47,7 @@ impl Days {
 }
 
 // The days that a task can reach, those on which it is running wherever it lies, and the slack below which a day is barred to it.
-#[derive(Drop)]
+#[derive(Clone, Copy)]
 pub struct Reach {
     pub days: Days,
     pub sure: Days,
@@ -73,7 +74,7 @@ impl Reach {
 }
 
 // The days of one stretch that a task can reach, and whether a rule hits them.
-#[derive(Drop)]
+#[derive(Clone, Copy)]
 pub struct Part {
     pub from: Day,
     pub to: Day,

@@ -23,7 +23,7 @@ use stretches::{Stretch, StretchRow};
 // ---- which tasks some stretch could touch
 
 // The least slack of all stretches, and the least that is tight: they touch no task that asks for no more.
-#[derive(Drop)]
+#[derive(Clone, Copy)]
 pub struct Least {
     pub slack: Power,
     pub tight: Power,
