@@ -18,7 +18,7 @@ use Rattle.plan.specs.declared.Task.{Task}
 use Rattle.plan.specs.declared.Span.{Span}
 use Rattle.plan.specs.Days.{day, days_of, cut_to, cut_below, cut_above}
 use Rattle.rules.specs.Frame.{Floor}
-use Rattle.rules.specs.Step.{possible, needed, shut, keeps_origin, keeps_duration, keeps_end, listed_days}
+use Rattle.rules.specs.Step.{needed, shut, keeps_origin, keeps_duration, keeps_end, listed_days}
 use Rattle.rules.proofs.Days.{every_day}
 use Rattle.rules.proofs.TaskDay.{no_need, no_shut}
 use Rattle.searches.specs.declared.Days.{Days}

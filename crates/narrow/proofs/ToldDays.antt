@@ -2,7 +2,7 @@
 use mathlib.Core.Path.{◌≡◌, refl, sym, ◌∙◌}
 use mathlib.Core.Bool.{Bool, true, false, not}
 use mathlib.Core.List.{List}
-use Prim.Native.Nat.{ℕ, zero, ◌<◌}
+use Prim.Native.Nat.{ℕ, ◌<◌}
 use lib.ListN.{length, get_or}
 use lib.IntN.{ℤ, pos}
 use lib.Signed.{lt_z}
@@ -101,7 +101,7 @@ module _ (r : ℕ) (limit : Floor) (ts : List Task) (t : Task) (ss : List Stretc
         (λ o.
         rw ((tells.exact j l).slack i o, from_sure j l i o)
         (by_cases (sure r i t)
-        (λ e. rw e (simp and_off (and_off (holds w i) ∙ sym (false_in bar (λ f. clash (sure r i t) e (unsure i f))))))
+        (λ e. rw e (simp and_off (sym (false_in bar (λ f. clash (sure r i t) e (unsure i f))))))
         (λ e. rw e (simp and_on (sym (barred_slack r limit ts t i e ∙ rw (only_has t.set r alone) refl)))))))
         (λ o. (tells.quiet i o).unbarred))
 

@@ -3,6 +3,7 @@
 // searched for the first and the last value that no barred day hits. A need found late could push a low end into a middle barred
 // early, so the two are not mixed. Cost: the stretches, once for each search; no loop runs over days.
 #![tactic(auto)]
+
 ghost use Rattle.std.specs.Prelude.{◌≡◌, true, false, ◌-◌, ◌≤◌, ◌<◌, length, eqb};
 ghost use Rattle.plan.specs.Sets.{set_bits, has, only};
 ghost use Rattle.plan.specs.Tasks.{Bounded};

@@ -2,7 +2,6 @@
 use mathlib.Core.Path.{◌≡◌, refl, ap}
 use mathlib.Core.Bool.{true}
 use lib.IntN.{ℤ}
-use Rattle.integers.proofs.Z.{z}
 use Rattle.plan.specs.declared.Task.{Task}
 use Rattle.rules.specs.Step.{shut}
 use Rattle.stretches.specs.View.{stretches_of}
@@ -11,43 +10,28 @@ use Rattle.searches.proofs.Durations.{longest_none}
 use Rattle.narrow.specs.Ready.{possible_days}
 use Rattle.narrow.proofs.ToldDays.{bars_told, free_told}
 use Rattle.narrow.proofs.NarrowedTask.{only_page}
-use borrow.Author.Rules.{rules}
-use Rattle.narrow.proofs.narrow_free.Statement.{statement}
-use Rattle.narrow.proofs.narrow_free.Tie as tie
+use Rattle.narrow.proofs.narrow_free.Goals as goal
 
-needs-of-requires : tie.Need-needs-of-requires
-needs-of-requires c κs = omega (z, c.requires.0.fits.origin, c.requires.0.fits.end, c.requires.1)
-
-with-needs-requires : tie.Need-with-needs-requires
-with-needs-requires c κs = search rules
-
-lifted-requires : tie.Need-lifted-requires
-lifted-requires c κs = search rules
-
-returns : tie.Need-returns
-returns c =
-    λ alone free limit ts known.
-    let w = c.before.before.before.before in
-    let a = w.before.before in
+pub returns : goal.returns
+returns c = λ alone free limit ts known.
+    let w = c in
+    let a = w in
     let t = a.args.t in
     let r = a.args.r in
     let ss = stretches_of a.args.ss.now in
     let fits = a.requires.0.fits in
     let q = shut r limit ts t in
     let d = t.duration.low.0 in
-    let s = w.before.needs-of in
-    let u = w.with-needs in
+    let s = w.needs_of-s in
+    let u = w.with_needs-u in
     let never : (i : ℤ) → q i ≡ true → ⊥ = free_told t ss q (bars_told r limit ts t ss fits known alone) free in
     only_page r limit ts t ss fits known s.result s.ensures.1 alone
-    (record { set = u.result.set; origin = u.result.origin; duration = t.duration; end = u.result.end; height = c.lifted.result })
+    (record { set = u.result.set; origin = u.result.origin; duration = t.duration; end = u.result.end; height = c.lifted-h.result })
     (record {
       set = ap (λ (v : Task). v.set) u.ensures;
       origin = rw u.ensures (freed_none q d _ never);
       end = rw u.ensures (freed_none q d _ never);
       least = refl;
       longest = longest_none q (possible_days t) t.duration.high.0 never;
-      height = c.lifted.ensures;
+      height = c.lifted-h.ensures;
     })
-
-pub narrow-free-spec : {M : Type 1} → statement M
-narrow-free-spec = tie.close (tie.spec needs-of-requires with-needs-requires lifted-requires returns)
