@@ -19,7 +19,7 @@ pub type StretchRow = [i64; STRETCH_CELLS];
 pub const BIG: Power = Power(2 * plan::MOST_TASKS as i64 * Power::HIGH.0);
 
 // The days from .. to - 1; the slack of all hopes over the limit on each; the same where the day counts, else `BIG`.
-#[derive(Drop)]
+#[derive(Clone, Copy)]
 pub struct Stretch {
     pub from: Day,
     pub to: Day,
