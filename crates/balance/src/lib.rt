@@ -1,6 +1,7 @@
 // The balance step: origin + duration = end, each of the three cut to what the other two leave. Every cut is worked out from the
 // ranges as they entered.
 #![tactic(auto)]
+
 ghost use Rattle.std.specs.Prelude.{◌≡◌, ◌+ℤ◌};
 ghost use Rattle.std.specs.Int.{w64};
 ghost use Rattle.std.proofs.Common.{SFits};
