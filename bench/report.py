@@ -100,8 +100,6 @@ def head(archive, seed, peers, plans):
     text = "Settling: the engine's static library" + (" and Gecode 6.2's cumulatives\n" if peers else ", alone (Gecode is not here)\n")
     text += f"machine   {platform.machine()}, {processor()}\n"
     text += f"archive   {shown} (sha256 {digest})\n"
-    if "target/native" in shown:
-        text += "          the engine's module in this machine's code; the archive that is handed out is for x86-64\n"
     text += f"compiler  {said_by(['g++', '--version'])}\n"
     plain = [plan for plan in plans if not plan.bands]
     more = (len(plans) - len(plain)) // len(SIZES)

@@ -1,4 +1,4 @@
-/* Gristwaltz: narrow a service plan until nothing more follows, or say that no plan exists. Link libgristwaltz.a (`rt staticlib gristwaltz`),
+/* Gristwaltz: narrow a service plan until nothing more follows, or say that no plan exists. Link libgristwaltz.a (`rt lib` in crates/gristwaltz),
  * which asks for `memset` and no other function.
  *
  * A plan is a plan file in memory (at most 10,150 bytes). Every call takes any bytes, keeps no state, uses no heap and may run on any number
