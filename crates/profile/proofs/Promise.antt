@@ -21,11 +21,11 @@ use Rattle.integers.proofs.Lists.{Place, any_place, each_in, each_at, each_so, e
 use Rattle.integers.proofs.Hull.{within_is}
 use Rattle.integers.proofs.Sums.{sum_append}
 use Rattle.plan.specs.declared.Task.{Task}
-use Rattle.plan.specs.Sets.{has, only}
+use Rattle.plan.specs.Sets.{only}
 use Rattle.plan.specs.Tasks.{Bounded}
 use Rattle.plan.proofs.Sets.{only_has}
 use Rattle.rules.specs.Frame.{Floor}
-use Rattle.rules.specs.Step.{possible, running, sure, total, counts, shortfall, listed_days}
+use Rattle.rules.specs.Step.{running, total, counts, shortfall, listed_days}
 use Rattle.rules.proofs.Days.{between}
 use Rattle.rules.proofs.TaskDay.{possible_is, sure_in}
 use Rattle.rules.proofs.Counted.{Counted, counted, begun_by_lem, begun_only, ends_after_lem, unended_only}

@@ -2,6 +2,7 @@
 // the events are sorted by day, and one run over them writes a stretch up to each event's day with what has been added up by then. Only stretches that
 // some rule could touch are kept. Cost: n log n for n tasks and bands; no day is visited, and no task for a stretch.
 #![tactic(auto)]
+
 ghost use Rattle.std.specs.Prelude.{◌≡◌, ◌++◌, ◌+◌, ◌*◌, ◌≤◌, ◌<◌, ◌+ℤ◌, length, take};
 ghost use Rattle.std.specs.Int.Signed.{lt_z};
 ghost use Rattle.std.specs.Int.{w64};
@@ -41,7 +42,7 @@ pub const MOST_STRETCHES: usize = MOST_KEYS + 1;
 // ---- sweep
 
 // What the events up to a day add up to.
-#[derive(Drop)]
+#[derive(Clone, Copy)]
 pub struct Level {
     pub slack: Power,
     pub sure: Count,
@@ -174,7 +175,7 @@ pub fn first_short(s: &[StretchRow], n: usize) -> usize
 // ---- all joined
 
 // How many stretches there are, and whether there is a shortfall.
-#[derive(Drop)]
+#[derive(Clone, Copy)]
 pub struct Profiled {
     pub stretches: usize,
     pub short: bool,
