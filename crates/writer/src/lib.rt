@@ -1,5 +1,6 @@
 // A plan's bytes, stored record after record, and whether a buffer has room for them.
 #![tactic(auto)]
+
 ghost use Rattle.std.specs.Prelude.{◌≡◌, ◌+◌, ◌≤◌, length};
 ghost use Rattle.std.proofs.lemmas.List.Edits.{sets};
 ghost use Rattle.integers.specs.Lists.{Each};
