@@ -1,7 +1,7 @@
 -- The ranges of a task that passed the checks: how far apart their ends are, and that its set has a resource.
 use Prim.Native.Nat.{◌≤◌}
 use native.Mathlib.Omega.{arith}
-use lib.IntN.{ℤ, ◌-ℤ◌, nat_abs}
+use lib.IntN.{◌-ℤ◌, nat_abs}
 use lib.Signed.{◌≤ℤ◌}
 use mir.Syntax.{w64}
 use mir.Val.{SFits}

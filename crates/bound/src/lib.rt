@@ -1,5 +1,6 @@
 // "How many passes at most": 1 plus all that could be removed, of rows that hold the tasks of a plan that passed the checks.
 #![tactic(auto)]
+
 ghost use Rattle.std.specs.Prelude.{◌≡◌};
 ghost use Rattle.plan.specs.Sets.{set_bits};
 ghost use Rattle.plan.specs.Tasks.{TaskFits};
