@@ -1,5 +1,6 @@
 // The planning program's lines, put into what is lent: each function answers the place past its text.
 #![tactic(auto)]
+
 ghost use Rattle.std.specs.Prelude.{◌≡◌, [], ◌∷◌, ◌++◌, ◌+◌, ◌*◌, ◌≤◌, ◌<◌, length};
 ghost use Rattle.plan.specs.Days.{days_of};
 ghost use Rattle.plan.specs.Powers.{powers_of};
@@ -106,12 +107,21 @@ pub fn put_tasks(out: &mut [u8], from: usize, s: &[TaskRow]) -> usize
     at
 }
 
+// A word, at the first places.
+fn put_word(out: &mut [u8], word: &[u8]) -> usize
+    requires { length word.now ≤ length out.old }
+    ensures { Put out.old 0 word.now (length word.now) out.new result }
+{
+    out[..word.len()].copy_from_slice(word);
+    word.len()
+}
+
 // The first line of a settled plan: its pass count.
 pub fn put_settled(out: &mut [u8], n: u64) -> usize
     requires { most_settled_line ≤ length out.old }
     ensures { Put out.old 0 (settled_line n) most_settled_line out.new result }
 {
-    let word = bytes::copy(b"settled ", out);
+    let word = put_word(out, b"settled ");
     let count = put_digits(out, word, MOST_DIGITS, n);
     put_byte(out, count, b'\n')
 }
@@ -121,7 +131,7 @@ pub fn put_refused(out: &mut [u8], f: Refusal) -> usize
     requires { most_refused_line ≤ length out.old }
     ensures { Put out.old 0 (refused_line f) most_refused_line out.new result }
 {
-    let word = bytes::copy(b"refused ", out);
+    let word = put_word(out, b"refused ");
     let number = put_digits(out, word, MOST_DIGITS, f.number());
     let gap = put_byte(out, number, b' ');
     let place = put_digits(out, gap, MOST_DIGITS, f.place() as u64);
