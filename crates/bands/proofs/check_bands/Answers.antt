@@ -16,40 +16,35 @@ returns-then-b-eq0 c = let a = c.args in
     sym (bands_none a.n (bands_of a.b.now) (omega (arith, length_bands a.b.now)))
 
 pub loop-k-init : goal.loop-k-init
-loop-k-init c = let d = c in
-    let a = d.args in
+loop-k-init c = let a = c.args in
     let bs = bands_of a.b.now in
     let l : 0 < length bs = omega (arith, length_bands a.b.now) in
-    let h : band_fits a.n (get_or bs 0 no_band) ≡ true = rw d.band_at-last.ensures at (sym c.band_fits.ensures ∙ c.if-band_fits.true) in
-    (omega arith, rw d.band_at-last.ensures (first_past a.n bs l h))
+    let h : band_fits a.n (get_or bs 0 no_band) ≡ true = rw c.band_at-last.ensures at (sym c.band_fits.ensures ∙ c.if-band_fits.true) in
+    (omega arith, rw c.band_at-last.ensures (first_past a.n bs l h))
 
 pub loop-k-preserved : goal.loop-k-preserved
-loop-k-preserved c = let d = c in
-    let a = d.args in
+loop-k-preserved c = let a = c.args in
     let bs = bands_of a.b.now in
     let e = c.band_at-next.ensures in
-    let l : d.loop-k.k < length bs = omega (arith, length_bands a.b.now) in
-    let h : next_at a.n bs d.loop-k.last d.loop-k.k ≡ true = rw e at (sym c.is_next.ensures ∙ c.if-is_next.true) in
-    (omega arith, rw e (bands_past a.n bs d.loop-k.last d.loop-k.k l h ∙ d.loop-k.invariant.1))
+    let l : c.loop-k.k < length bs = omega (arith, length_bands a.b.now) in
+    let h : next_at a.n bs c.loop-k.last c.loop-k.k ≡ true = rw e at (sym c.is_next.ensures ∙ c.if-is_next.true) in
+    (omega arith, rw e (bands_past a.n bs c.loop-k.last c.loop-k.k l h ∙ c.loop-k.invariant.1))
 
 pub returns-else-is_next : goal.returns-else-is_next
-returns-else-is_next c = let d = c in
-    let a = d.args in
+returns-else-is_next c = let a = c.args in
     let bs = bands_of a.b.now in
-    let l : d.loop-k.k < length bs = omega (arith, length_bands a.b.now) in
-    let h : next_at a.n bs d.loop-k.last d.loop-k.k ≡ false =
+    let l : c.loop-k.k < length bs = omega (arith, length_bands a.b.now) in
+    let h : next_at a.n bs c.loop-k.last c.loop-k.k ≡ false =
     rw c.band_at-next.ensures at (sym c.is_next.ensures ∙ c.if-is_next.false) in
-    sym (bands_here a.n bs d.loop-k.last d.loop-k.k l h) ∙ d.loop-k.invariant.1
+    sym (bands_here a.n bs c.loop-k.last c.loop-k.k l h) ∙ c.loop-k.invariant.1
 
 pub returns-then-band_fits : goal.returns-then-band_fits
-returns-then-band_fits c = let d = c in
-    let a = d.args in
-    sym (bands_end a.n (bands_of a.b.now) d.loop-k.last d.loop-k.k (omega (arith, length_bands a.b.now))) ∙ d.loop-k.invariant.1
+returns-then-band_fits c = let a = c.args in
+    sym (bands_end a.n (bands_of a.b.now) c.loop-k.last c.loop-k.k (omega (arith, length_bands a.b.now))) ∙ c.loop-k.invariant.1
 
 pub returns : goal.returns
-returns c = let d = c in
-    let a = d.args in
+returns c = let a = c.args in
     let bs = bands_of a.b.now in
     let l : 0 < length bs = omega (arith, length_bands a.b.now) in
-    let h : band_fits a.n (get_or bs 0 no_band) ≡ false = rw d.band_at-last.ensures at (sym c.band_fits.ensures ∙ c.if-band_fits.false) in
+    let h : band_fits a.n (get_or bs 0 no_band) ≡ false = rw c.band_at-last.ensures at (sym c.band_fits.ensures ∙ c.if-band_fits.false) in
     sym (first_here a.n bs l h)

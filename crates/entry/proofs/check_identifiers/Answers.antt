@@ -10,25 +10,21 @@ use Rattle.entry.proofs.Rising.{rises_repeats}
 use Rattle.entry.proofs.check_identifiers.Goals as goal
 
 pub returns-then-identifiers_rise : goal.returns-then-identifiers_rise
-returns-then-identifiers_rise c = let b = c in
-    sym (rises_repeats (resources_of b.args.q.now) (sym b.identifiers_rise.ensures ∙ c.if-identifiers_rise.true))
+returns-then-identifiers_rise c = sym (rises_repeats (resources_of c.args.q.now) (sym c.identifiers_rise.ensures ∙ c.if-identifiers_rise.true))
 
 pub loop-k-init : goal.loop-k-init
 loop-k-init c = (omega arith, repeats_start (resources_of c.args.q.now))
 
 pub returns-then-repeats_earlier : goal.returns-then-repeats_earlier
-returns-then-repeats_earlier c = let b = c in
-    let qs = resources_of b.args.q.now in
-    let l : b.loop-k.k < length qs = omega (arith, length_resources b.args.q.now) in
-    sym (repeats_here qs b.loop-k.k l (sym c.repeats_earlier.ensures ∙ c.if-repeats_earlier.true)) ∙ b.loop-k.invariant.1
+returns-then-repeats_earlier c = let qs = resources_of c.args.q.now in
+    let l : c.loop-k.k < length qs = omega (arith, length_resources c.args.q.now) in
+    sym (repeats_here qs c.loop-k.k l (sym c.repeats_earlier.ensures ∙ c.if-repeats_earlier.true)) ∙ c.loop-k.invariant.1
 
 pub loop-k-preserved : goal.loop-k-preserved
-loop-k-preserved c = let b = c in
-    let qs = resources_of b.args.q.now in
-    let l : b.loop-k.k < length qs = omega (arith, length_resources b.args.q.now) in
-    (omega arith, repeats_past qs b.loop-k.k l (sym c.repeats_earlier.ensures ∙ c.if-repeats_earlier.false) ∙ b.loop-k.invariant.1)
+loop-k-preserved c = let qs = resources_of c.args.q.now in
+    let l : c.loop-k.k < length qs = omega (arith, length_resources c.args.q.now) in
+    (omega arith, repeats_past qs c.loop-k.k l (sym c.repeats_earlier.ensures ∙ c.if-repeats_earlier.false) ∙ c.loop-k.invariant.1)
 
 pub returns : goal.returns
-returns c = let b = c in
-    let qs = resources_of b.args.q.now in
-    sym (repeats_end qs b.loop-k.k (omega (arith, length_resources b.args.q.now))) ∙ b.loop-k.invariant.1
+returns c = let qs = resources_of c.args.q.now in
+    sym (repeats_end qs c.loop-k.k (omega (arith, length_resources c.args.q.now))) ∙ c.loop-k.invariant.1

@@ -16,22 +16,19 @@ pub loop-k-init : goal.loop-k-init
 loop-k-init c = (omega arith, limits_start (resources_of c.args.q.now))
 
 pub loop-k-preserved : goal.loop-k-preserved
-loop-k-preserved c = let b = c in
-    let qs = resources_of b.args.q.now in
-    let l : b.loop-k.k < length qs = omega (arith, length_resources b.args.q.now) in
-    let h : within power_ends (get_or qs b.loop-k.k no_resource).limit.0 ≡ true =
+loop-k-preserved c = let qs = resources_of c.args.q.now in
+    let l : c.loop-k.k < length qs = omega (arith, length_resources c.args.q.now) in
+    let h : within power_ends (get_or qs c.loop-k.k no_resource).limit.0 ≡ true =
     rw c.limit_at-limit.ensures at (sym c.fits.ensures ∙ c.if-fits.true) in
-    (omega arith, limits_past qs b.loop-k.k l h ∙ b.loop-k.invariant.1)
+    (omega arith, limits_past qs c.loop-k.k l h ∙ c.loop-k.invariant.1)
 
 pub returns-else-fits : goal.returns-else-fits
-returns-else-fits c = let b = c in
-    let qs = resources_of b.args.q.now in
-    let l : b.loop-k.k < length qs = omega (arith, length_resources b.args.q.now) in
-    let h : within power_ends (get_or qs b.loop-k.k no_resource).limit.0 ≡ false =
+returns-else-fits c = let qs = resources_of c.args.q.now in
+    let l : c.loop-k.k < length qs = omega (arith, length_resources c.args.q.now) in
+    let h : within power_ends (get_or qs c.loop-k.k no_resource).limit.0 ≡ false =
     rw c.limit_at-limit.ensures at (sym c.fits.ensures ∙ c.if-fits.false) in
-    sym (limits_here qs b.loop-k.k l h) ∙ b.loop-k.invariant.1
+    sym (limits_here qs c.loop-k.k l h) ∙ c.loop-k.invariant.1
 
 pub returns : goal.returns
-returns c = let b = c in
-    let qs = resources_of b.args.q.now in
-    sym (limits_end qs b.loop-k.k (omega (arith, length_resources b.args.q.now))) ∙ b.loop-k.invariant.1
+returns c = let qs = resources_of c.args.q.now in
+    sym (limits_end qs c.loop-k.k (omega (arith, length_resources c.args.q.now))) ∙ c.loop-k.invariant.1

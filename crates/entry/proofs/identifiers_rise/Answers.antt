@@ -20,23 +20,20 @@ loop-k-init c = let q = c.args.q.now in
     (omega arith, rw c.resource_at-last.ensures (rises_start (resources_of q) l))
 
 pub loop-k-preserved : goal.loop-k-preserved
-loop-k-preserved c = let b = c in
-    let q = b.args.q.now in
+loop-k-preserved c = let q = c.args.q.now in
     let e = c.resource_at-next.ensures in
-    let l : b.loop-k.k < length (resources_of q) = omega (arith, length_resources q) in
-    let h : below_id b.loop-k.last (get_or (resources_of q) b.loop-k.k no_resource) ≡ true =
+    let l : c.loop-k.k < length (resources_of q) = omega (arith, length_resources q) in
+    let h : below_id c.loop-k.last (get_or (resources_of q) c.loop-k.k no_resource) ≡ true =
     rw e at (sym c.below_id.ensures ∙ c.if-below_id.true) in
-    (omega arith, rw e (rises_past (resources_of q) b.loop-k.last b.loop-k.k l h ∙ b.loop-k.invariant.1))
+    (omega arith, rw e (rises_past (resources_of q) c.loop-k.last c.loop-k.k l h ∙ c.loop-k.invariant.1))
 
 pub returns-else-below_id : goal.returns-else-below_id
-returns-else-below_id c = let b = c in
-    let q = b.args.q.now in
-    let l : b.loop-k.k < length (resources_of q) = omega (arith, length_resources q) in
-    let h : below_id b.loop-k.last (get_or (resources_of q) b.loop-k.k no_resource) ≡ false =
+returns-else-below_id c = let q = c.args.q.now in
+    let l : c.loop-k.k < length (resources_of q) = omega (arith, length_resources q) in
+    let h : below_id c.loop-k.last (get_or (resources_of q) c.loop-k.k no_resource) ≡ false =
     rw c.resource_at-next.ensures at (sym c.below_id.ensures ∙ c.if-below_id.false) in
-    sym (rises_here (resources_of q) b.loop-k.last b.loop-k.k l h) ∙ b.loop-k.invariant.1
+    sym (rises_here (resources_of q) c.loop-k.last c.loop-k.k l h) ∙ c.loop-k.invariant.1
 
 pub returns : goal.returns
-returns c = let b = c in
-    let q = b.args.q.now in
-    sym (rises_end (resources_of q) b.loop-k.last b.loop-k.k (omega (arith, length_resources q))) ∙ b.loop-k.invariant.1
+returns c = let q = c.args.q.now in
+    sym (rises_end (resources_of q) c.loop-k.last c.loop-k.k (omega (arith, length_resources q))) ∙ c.loop-k.invariant.1

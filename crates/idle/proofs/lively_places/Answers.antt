@@ -8,13 +8,11 @@ use Rattle.idle.proofs.Resting.{places_more, places_end}
 use Rattle.idle.proofs.lively_places.Goals as goal
 
 pub loop-i-preserved : goal.loop-i-preserved
-loop-i-preserved c = let l = c in
-    let ts = tasks_of l.args.s.now in (
-      omega arith,
-      rw (c.with_lively-mask.ensures, c.task_at.ensures) (places_more no_task l.loop-i.mask l.loop-i.i ts (omega (arith, length_tasks l.args.s.now))) ∙ l.loop-i.invariant.1,
-    )
+loop-i-preserved c = let ts = tasks_of c.args.s.now in (
+  omega arith,
+  rw (c.with_lively-mask.ensures, c.task_at.ensures) (places_more no_task c.loop-i.mask c.loop-i.i ts (omega (arith, length_tasks c.args.s.now))) ∙ c.loop-i.invariant.1,
+)
 
 pub returns : goal.returns
-returns c = let l = c in
-    let ts = tasks_of l.args.s.now in
-    sym (places_end l.loop-i.mask l.loop-i.i ts (omega (arith, length_tasks l.args.s.now))) ∙ l.loop-i.invariant.1
+returns c = let ts = tasks_of c.args.s.now in
+    sym (places_end c.loop-i.mask c.loop-i.i ts (omega (arith, length_tasks c.args.s.now))) ∙ c.loop-i.invariant.1
