@@ -1,5 +1,4 @@
-/* Makes the engine's calls for another program, over pipes: so the archive for x86-64 is called from a machine that is none, this program
- * alone running under an emulator.
+/* Makes the engine's calls for another program, over pipes: so the archive that is handed out is called by a C host, beside the comparison.
  *
  * A request is five numbers of 8 bytes (call, place, length of the file, length of the memory, margin), the file, and the memory that holds
  * the output buffer with a margin on either side; settling within a number of passes has that number for the place. The reply is the answer
