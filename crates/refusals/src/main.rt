@@ -121,9 +121,10 @@ fn many_bands() -> [BandRow; plan::MOST_BANDS + 1] {
 // Refusal 13: a 65th band, in rows or only counted; behind one that is out of order, that one.
 fn many_levels(rt: &impl Print) -> io::Result<()> {
     let many = many_bands();
-    show_bands(rt, &many[..plan::MOST_BANDS])?;
+    let most = &many[..plan::MOST_BANDS];
+    show_bands(rt, most)?;
     show_bands(rt, &many)?;
-    show_counts(rt, 2, 2, plan::MOST_BANDS + 1, &many[..plan::MOST_BANDS])?;
+    show_counts(rt, 2, 2, plan::MOST_BANDS + 1, most)?;
     let mut crossed = many;
     crossed[3] = [0, 2, 5];
     show_bands(rt, &crossed)
