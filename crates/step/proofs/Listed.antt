@@ -6,7 +6,7 @@ use Prim.Native.Nat.{ℕ}
 use lib.Dec.{eqb}
 use lib.IntN.{ℤ}
 use lib.Signed.{◌≤ℤ◌, lt_z}
-use Rattle.integers.specs.Tests.{and, or, any}
+use Rattle.integers.specs.Tests.{and, any}
 use Rattle.integers.specs.Lists.{Each, In}
 use Rattle.integers.specs.Lists.In.{head, tail}
 use Rattle.integers.proofs.Z.{z}

@@ -2,6 +2,7 @@
 // A task that asks for no more slack than every stretch leaves is passed over: no rule touches it. Cost: the profile, and for each task
 // that is not passed over the searches of narrow.
 #![tactic(auto)]
+
 ghost use Rattle.std.specs.Prelude.{◌≡◌, ◌+◌, ◌<◌, length, get_or};
 ghost use Rattle.integers.specs.Lists.{Each};
 ghost use Rattle.plan.specs.Sets.{set_bits};
