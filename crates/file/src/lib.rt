@@ -1,5 +1,6 @@
 // A plan file read into rows of resources, bands and tasks, the reader's records in the order that they are due, and written from them.
 #![tactic(auto)]
+
 ghost use Rattle.std.specs.Prelude.{◌≡◌, List, ℕ, ◌≤◌, ◌<◌, ◌^◌, min, length};
 ghost use Rattle.plan.specs.Tasks.{most_resources, most_bands, most_tasks};
 ghost use Rattle.rows.specs.View.{tasks_of, resources_of, frame_of};
