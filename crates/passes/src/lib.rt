@@ -1,6 +1,7 @@
 // Pass and settle over the core's rows, sense at least. A mask of resources that may still change something saves steps: it is no part of any
 // answer.
 #![tactic(auto)]
+
 ghost use Rattle.std.specs.Prelude.{◌≡◌, true, false, not, ◌<◌, eqb, length};
 ghost use Rattle.integers.specs.Tests.{or};
 ghost use Rattle.plan.specs.declared.Call.TheVariants.{Within};
