@@ -1,6 +1,7 @@
 // What is asked of a plan file in memory without an output: whether it is a plan that passes the entry checks, and how many passes settling it makes at
 // most; and a refusal as one number.
 #![tactic(auto)]
+
 ghost use Rattle.std.specs.Prelude.{◌≡◌, ◌≤◌, length};
 ghost use Rattle.plan.specs.declared.Answer.TheVariants.{Refused};
 ghost use Rattle.plan.specs.Tasks.{most_resources, most_bands, most_tasks};
