@@ -1,3 +1,2 @@
--- What the balance step's sums need, and why the tasks that it passes over stay.
-pub mod Fits
+-- Why the tasks that the balance step passes over stay.
 pub mod Stays

@@ -2,13 +2,9 @@
 use Prim.Native.Nat.{◌≤◌}
 use native.Mathlib.Omega.{arith}
 use lib.IntN.{◌-ℤ◌, nat_abs}
-use lib.Signed.{◌≤ℤ◌}
-use mir.Syntax.{w64}
-use mir.Val.{SFits}
 use borrow.Author.Tests.{ne_eqb}
-use Rattle.integers.specs.Hull.{Range, width}
-use Rattle.integers.specs.Ends.{InEnds}
-use Rattle.integers.proofs.Z.{z, -z}
+use Rattle.integers.specs.Hull.{width}
+use Rattle.integers.proofs.Z.{z}
 use Rattle.integers.proofs.Hull.{width_most}
 use Rattle.plan.specs.declared.Task.{Task}
 use Rattle.plan.specs.Days.{days_of, day_ends, duration_ends}
@@ -16,10 +12,6 @@ use Rattle.plan.specs.Powers.{powers_of, power_ends}
 use Rattle.plan.specs.Sets.{set_bits, size}
 use Rattle.plan.specs.Tasks.{TaskFits}
 use Rattle.plan.proofs.Sets.{size_some, some_place}
-
--- the difference of two ends that are at most so far from 0
-pub rises : (e s : Range) → InEnds e s → InEnds power_ends e → SFits w64 (s.high -ℤ s.low) × (s.low ≤ℤ s.high)
-rises e s h w = (omega (z, -z s.high s.low), h.rises)
 
 module _ (t : Task) (k : TaskFits set_bits t) where
   pub starts_most : nat_abs (t.origin.high.0 -ℤ t.origin.low.0) ≤ 200000
