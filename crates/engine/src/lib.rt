@@ -1,6 +1,7 @@
 // Every call on the core's rows: checking, balance, one resource's step, a pass, settling, how many passes that makes at most. The steps work at
 // least: a plan at most is negated on entry, and back on success.
 #![tactic(auto)]
+
 ghost use Rattle.std.specs.Prelude.{◌≡◌, true, length};
 ghost use Rattle.rules.specs.Calls.{placed_in};
 ghost use Rattle.rows.specs.View.{frame_of, at_least};
