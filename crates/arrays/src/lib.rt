@@ -1,5 +1,6 @@
 // The calls on lists that are loaded into arrays: the first places of each, and how many there are in truth.
 #![tactic(auto)]
+
 ghost use Rattle.std.specs.Prelude.{◌≡◌, true, ◌≤◌, min, length, take};
 ghost use Rattle.plan.specs.declared.Band.{Band};
 ghost use Rattle.plan.specs.declared.Checked.TheVariants.{Accepted};

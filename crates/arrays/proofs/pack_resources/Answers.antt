@@ -1,0 +1,22 @@
+use Rattle.std.proofs.Common.{ℕ, ◌<◌, length, take, arith, sym, ap, ◌∙◌}
+use Rattle.integers.proofs.Loops.{over_none, over_more, over_take}
+use Rattle.rows.specs.View.{resources_of}
+use Rattle.rows.proofs.View.{length_resources}
+use Rattle.arrays.proofs.pack_resources.Goals as goal
+
+pub loop-i-init : goal.loop-i-init
+loop-i-init c = (omega arith, sym (over_none _ _))
+
+pub loop-i-preserved : goal.loop-i-preserved
+loop-i-preserved c =
+    let i = c.loop-i.i in
+    let h : i < length c.args.resources = omega arith in
+    let k : i < length (resources_of c.args.q.now) = omega (arith, length_resources c.args.q.now) in
+    (omega arith, rw (c.put_resource.ensures, c.loop-i.invariant.1) (over_more _ i c.args.resources (resources_of c.args.q.now) h k))
+
+pub returns : goal.returns
+returns c =
+    let l = length_resources c.args.q.now in
+    c.loop-i.invariant.1
+    ∙ over_take c.loop-i.i c.args.resources (resources_of c.args.q.now) (omega (arith, l)) (omega (arith, l))
+    ∙ ap (λ (n : ℕ). take n c.args.resources) l
