@@ -1,5 +1,6 @@
 // The call over lists of records that a caller lends: the lists are loaded by value, and the tasks that are left are stored back.
 #![tactic(auto)]
+
 ghost use Rattle.std.specs.Prelude.{◌≡◌};
 ghost use Rattle.plan.specs.Refusals.{told_answer};
 ghost use Rattle.rules.specs.Frame.{framed};
