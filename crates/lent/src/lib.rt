@@ -1,5 +1,6 @@
 // A plan file read into lent lists of records, and lent lists written into a lent buffer.
 #![tactic(auto)]
+
 ghost use Rattle.std.specs.Prelude.{◌≡◌, ◌≤◌};
 ghost use Rattle.plan.specs.Tasks.{most_resources, most_tasks};
 ghost use Rattle.rules.specs.Frame.{framed};
