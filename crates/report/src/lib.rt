@@ -1,5 +1,6 @@
 // The planning program's text for a plan file: the file is read into rows of our own, settled, and told in what is lent.
 #![tactic(auto)]
+
 ghost use Rattle.std.specs.Prelude.{◌≡◌, ◌≤◌, length, take};
 ghost use Rattle.std.proofs.lemmas.List.Edits.{sets};
 ghost use Rattle.plan.specs.declared.Answer.TheVariants.{Done};
