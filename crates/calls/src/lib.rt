@@ -1,5 +1,6 @@
 // Calls on a plan file in memory that write, each with one number as its answer: what the functions for other languages do.
 #![tactic(auto)]
+
 ghost use Rattle.std.specs.Prelude.{◌≡◌, false, ◌+◌, ◌≤◌, length};
 ghost use Rattle.plan.specs.Tasks.{most_resources, most_bands, most_tasks};
 ghost use Rattle.rows.specs.View.{tasks_of, frame_of};
