@@ -1,6 +1,7 @@
 // Gristwaltz for other languages: calls on a plan file in memory, each with one number as its answer. They keep no state. Only what is
 // exported stands here, so that an edit of it is proved again in seconds; the work is done in crates calls and looks.
 #![tactic(auto)]
+
 ghost use Rattle.std.specs.Prelude.{◌≡◌};
 ghost use Rattle.plan.specs.declared.Call.TheVariants.{Balance, Step, Pass, Settle, Within};
 ghost use Rattle.answers.specs.Files.{file_result, file_call, check_file, most_file};
