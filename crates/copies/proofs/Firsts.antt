@@ -10,13 +10,6 @@ use Rattle.integers.proofs.Loops.{over}
 use Rattle.copies.specs.Loaded.{firsts}
 
 module _ {A : Type 0} where
-  pub over_length : (i : ℕ) (xs ds : List A) → length (over i xs ds) ≡ length ds
-  unfolding over
-  over_length zero xs ds = refl
-  over_length (suc i) [] ds = refl
-  over_length (suc i) (x ∷ xs) [] = refl
-  over_length (suc i) (x ∷ xs) (d ∷ ds) = ap suc (over_length i xs ds)
-
   -- the first i of one list, then what the other has after them
   pub over_is : (i : ℕ) (xs ds : List A) → i ≤ length xs → i ≤ length ds → over i xs ds ≡ take i xs ++ drop i ds
   unfolding over

@@ -5,9 +5,9 @@ use native.Mathlib.Omega.{arith}
 use lib.IntN.{ℤ, pos, ◌+ℤ◌, ◌-ℤ◌, nat_abs}
 use lib.Signed.{◌≤ℤ◌, ◌<ℤ◌}
 use mir.Syntax.{w64}
-use mir.Val.{SFits, to_z}
+use mir.Val.{to_z}
 use mir.Facts.{to_z_pos}
-use Rattle.integers.proofs.Z.{z, up, dn, +z, -z}
+use Rattle.integers.proofs.Z.{z, +z, -z}
 use Rattle.integers.proofs.Sums.{Near}
 use Rattle.integers.proofs.Hull.{abs_up}
 use Rattle.plan.specs.Days.{day_low}
@@ -89,6 +89,3 @@ sure_near k = omega (z, +z count_ends.low (pos (k % count_field)))
 -- ---- a field as the code reads it, out of bits
 pub read_is : (x : ℕ) → x < 2 ^ 62 → to_z w64 x ≡ pos x
 read_is x h = to_z_pos w64 {n = x} (omega arith)
-
-pub read_fits : (least : ℤ) (x : ℕ) → dn least ≤ 2 ^ 62 → up least ≤ 2 ^ 62 → x < 2 ^ 62 → SFits w64 (least +ℤ to_z w64 x)
-read_fits least x a b h = rw (read_is x h) (omega (z, +z least (pos x)))

@@ -1,9 +1,9 @@
 -- Runs of records, one step at a time: what is still to be stored, or still to be read, applied to the list as it is now, is the answer.
-use mathlib.Core.Path.{◌≡◌, refl, sym, ap, ◌∙◌}
+use mathlib.Core.Path.{◌≡◌, sym, ap, ◌∙◌}
 use mathlib.Core.List.{List}
 use Prim.Native.Nat.{ℕ, suc, ◌+◌, ◌-◌, ◌*◌, ◌≤◌, ◌<◌}
 use native.Mathlib.Omega.{arith}
-use native.Mathlib.Nat.{suc-mul, zero-mul, sub-zero}
+use native.Mathlib.Nat.{suc-mul}
 use native.Mathlib.Numerals.{add-one}
 use lib.ListN.{length, get_or, take, drop, set, drop_of_length-le}
 use lib.Seq.{drop-cons, drop-drop, sets, length-sets}
@@ -27,9 +27,6 @@ module _ {A : Type 0} {l : Layout A} {P : A → Type 0} (w : Lawful l P) (xs : L
     pub place : at ≡ from + i * size l.due
     pub room : length now ≡ length out
     pub still : sets now at (records_bytes l (drop i xs)) ≡ sets out from (records_bytes l xs)
-
-  pub storing_starts : Storing 0 from out
-  storing_starts = record { upto = omega arith; place = omega (arith, zero-mul (size l.due)); room = refl; still = refl }
 
 module _ {A : Type 0} {l : Layout A} {P : A → Type 0} {w : Lawful l P} {xs : List A} {out : List ℕ} {from i at : ℕ} {now : List ℕ} (r : Storing w xs out from i at now) where
   pub storing_goes_on : {later : List ℕ} (x : A) → i < length xs → later ≡ sets now at (record_bytes (l.mark (get_or xs i x)) (l.numbers (get_or xs i x))) → Storing w xs out from (i + 1) (at + size l.due) later
@@ -59,10 +56,6 @@ module _ {A : Type 0} (l : Layout A) (file : List ℕ) (from n : ℕ) (ds : List
     pub place : at ≡ from + i * size l.due
     pub due : run_due l file at (n - i) ≡ run_due l file from n
     pub still : sets now i (run_in l file at (n - i)) ≡ sets ds 0 (run_in l file from n)
-
-  pub reading_starts : Reading 0 from ds
-  reading_starts =
-      record { upto = omega arith; place = omega (arith, zero-mul (size l.due)); due = rw (sub-zero n); still = rw (sub-zero n) }
 
 module _ {A : Type 0} {l : Layout A} {file : List ℕ} {from n : ℕ} {ds : List A} {i at : ℕ} {now : List A} (r : Reading l file from n ds i at now) where
   one_left : i < n → n - i ≡ suc (n - (i + 1))

@@ -1,11 +1,11 @@
 -- Linear arithmetic on whole numbers for `omega`, which reads naturals only: a is `up a` less `dn a`, one of the two 0.
 -- A goal of sums, differences, orders and bounds is `omega (z, ..)` with one law listed for each sum (`+z`), difference (`-z`),
 -- negation (`~z`), larger (`maxz`) and smaller (`minz`) in it.
-use mathlib.Core.Path.{◌≡◌, refl, sym, ap, ◌∙◌, subst}
+use mathlib.Core.Path.{◌≡◌, refl, sym, ap, subst}
 use mathlib.Core.Bool.{Bool, true, false, not, cond}
 use Prim.Native.Nat.{ℕ, zero, suc, ◌+◌, ◌-◌, ◌^◌, ◌≤◌, ◌<◌, max, min}
 use native.Mathlib.Omega.{arith}
-use lib.Dec.{T, ltb, eqb, ltb→lt, nltb→le, leb→le, nleb→lt, lt→ltb, le→leb, eqb→eq, eqb_refl}
+use lib.Dec.{T, ltb, ltb→lt, nltb→le, leb→le, nleb→lt, lt→ltb, le→leb, eqb→eq, eqb_refl}
 use lib.IntN.{ℤ, pos, negsuc, neg_ℤ, ◌+ℤ◌, ◌-ℤ◌, sub_ℕ, suc_ℤ, pred_ℤ}
 use lib.Signed.{mag, lt_z, le_z, ◌≤ℤ◌, ◌<ℤ◌}
 use mir.Syntax.{Width}
@@ -163,22 +163,6 @@ eq_t (negsuc a) = eqb_refl a
 
 pub eq_z_true : (a b : ℤ) → eq_z a b ≡ true → up a + dn b ≡ up b + dn a
 eq_z_true a b e = subst (λ y. up a + dn y ≡ up y + dn a) (eq_o a b (subst T (sym e) tt)) refl
-
--- the machine tests the bits
-bits_eq : (x y : Bool) → (T x → T y) → (T y → T x) → x ≡ y
-bits_eq true true f g = refl
-bits_eq true false f g = absurd (f tt)
-bits_eq false true f g = absurd (g tt)
-bits_eq false false f g = refl
-
-pub eq_bits : (w : Width) (a b : ℤ) → SFits w a → SFits w b → eqb (of_z w a) (of_z w b) ≡ eq_z a b
-eq_bits w a b f g =
-    bits_eq (eqb (of_z w a) (of_z w b)) (eq_z a b)
-    (λ t. subst (λ y. T (eq_z a y)) (same_z (eqb→eq (of_z w a) (of_z w b) t)) (eq_t a))
-    (λ t. subst (λ y. T (eqb (of_z w a) (of_z w y))) (eq_o a b t) (eqb_refl (of_z w a)))
-  where
-    same_z : of_z w a ≡ of_z w b → a ≡ b
-    same_z e = sym (to_z-of_z w a f) ∙ ap (to_z w) e ∙ to_z-of_z w b g
 
 -- ---- the larger and the smaller of two
 pub maxz : (a b : ℤ) → up (larger a b) + dn a + dn b ≡ max (up a + dn b) (up b + dn a) + dn (larger a b)

@@ -4,16 +4,15 @@ use mathlib.Core.List.{List, [], ◌∷◌, ◌++◌}
 use Prim.Native.Nat.{ℕ, ◌+◌, ◌*◌, ◌≤◌, ◌<◌}
 use native.Mathlib.Numerals.{add-one}
 use native.Mathlib.Omega.{arith}
-use lib.IntN.{ℤ, pos, ◌+ℤ◌, nat_abs}
+use lib.IntN.{ℤ, ◌+ℤ◌, nat_abs}
 use lib.ListN.{length, take, drop, get_or, drop_of_length-le}
 use lib.Seq.{drop-cons}
 use mir.Syntax.{w64}
 use mir.Val.{SFits}
-use Rattle.integers.specs.Ends.{Within}
 use Rattle.integers.proofs.Z.{z, +z}
 use Rattle.integers.proofs.Tests.{if-case}
 use Rattle.integers.proofs.Sums.{Near}
-use Rattle.plan.specs.Powers.{power_ends, power_high}
+use Rattle.plan.specs.Powers.{power_high}
 use Rattle.plan.specs.Tasks.{most_tasks}
 use Rattle.stretches.specs.declared.Stretch.{Stretch}
 use Rattle.events.specs.declared.Extremes.{Extremes}
@@ -48,9 +47,6 @@ module _ (e : Extremes) (ks : List ℕ) (j : ℕ) where
 pub record Small (j : ℕ) (v : Level) : Type 0 where
   pub slack : Near (nat_abs power_high + j * power_field) v.slack.0
   pub sure : Near (j * count_field) v.sure.0
-
-pub small_start : (v : Level) → Within power_ends v.slack.0 → v.sure.0 ≡ pos 0 → Small 0 v
-small_start v w e = omega z
 
 module _ (j : ℕ) (v : Level) (k : ℕ) (s : Small j v) where
   pub small_fits : j < most_events most_tasks most_more → SFits w64 (v.slack.0 +ℤ power_of k) × SFits w64 (v.sure.0 +ℤ sure_of k)

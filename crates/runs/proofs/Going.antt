@@ -140,10 +140,3 @@ module _ {r : Run} (c : Checked) (k : ℕ) (e : r ≡ run_unless c k) where
       either : (c : Checked) → read_through (run_unless c k) x ≡ read_unless c (x k)
       either Accepted = refl
       either (Refused f) = refl
-
-  pub unless_within : {room : ℕ} → k ≤ room → RunWithin r room
-  unless_within {room} h = rw e (either c)
-    where
-      either : (c : Checked) → RunWithin (run_unless c k) room
-      either Accepted = h
-      either (Refused f) = tt

@@ -6,7 +6,7 @@ use Prim.Native.Nat.{ℕ, zero, suc, ◌+◌, ◌≤◌, min}
 use native.Mathlib.Omega.{arith}
 use lib.Dec.{ltb}
 use lib.IntN.{ℤ}
-use lib.ListN.{length, drop, length-append}
+use lib.ListN.{length, drop}
 use lib.Seq.{take-append-le}
 use borrow.Author.Tests.{lt-ltb, ltb-true, ltb-false}
 use Rattle.integers.proofs.Tests.{by_cases}
@@ -57,7 +57,3 @@ after_roomy room h file =
 pub part_through : (r : Run) (h : Header) (q b d s : List (List ℤ)) → RunWithin r (length b) → read_through r (header_plan h q (b ++ d) s) ≡ read_through r (header_plan h q b s)
 part_through (Run.Through k) h q b d s w = rw (take-append-le k b d w)
 part_through (Run.Refused f) h q b d s w = refl
-
-pub part_within : (r : Run) (b d : List (List ℤ)) → RunWithin r (length b) → RunWithin r (length (b ++ d))
-part_within (Run.Through k) b d w = omega (arith, w, length-append b d)
-part_within (Run.Refused f) b d w = tt

@@ -4,11 +4,8 @@
 use mathlib.Core.Path.{◌≡◌}
 use mathlib.Core.Bool.{Bool, true}
 use mathlib.Core.List.{List, [], ◌∷◌, foldl}
-use Prim.Native.Nat.{◌/◌}
-use lib.IntN.{ℤ, pos, negsuc, ◌+ℤ◌, ◌-ℤ◌, pred_ℤ}
-use lib.Signed.{lt_z, quot_z, ◌≤ℤ◌, ◌<ℤ◌}
-use mir.Syntax.{w64}
-use mir.Val.{SFits}
+use lib.IntN.{ℤ, pos, ◌+ℤ◌, ◌-ℤ◌, pred_ℤ}
+use lib.Signed.{lt_z, ◌≤ℤ◌, ◌<ℤ◌}
 use Rattle.integers.specs.Tests.{and}
 use Rattle.integers.specs.Whole.{larger, smaller}
 use Rattle.integers.proofs.Z.{z, +z, -z, maxz, minz, predz, lt_z_in}
@@ -16,7 +13,7 @@ use Rattle.integers.proofs.Tests.{clash, if-case, and_first, and_second, and_in}
 use Rattle.stretches.specs.declared.Stretch.{Stretch}
 use Rattle.searches.specs.declared.Days.{Days}
 use Rattle.searches.specs.declared.Part.{Part}
-use Rattle.searches.specs.Searches.{on_part, hit_days, room, Longest, Half, Dated, Placed, shorter}
+use Rattle.searches.specs.Searches.{on_part, hit_days, room, Longest, Half, shorter}
 use Rattle.searches.proofs.Parts.{lt_cases, on_part_is, on_part_in, hit_none, hit_first, hit_later, hit_cases, long_so}
 
 module _ (w : Days) (h : ℤ) (half : Half w h) where
@@ -127,27 +124,3 @@ longest_half q w h m half l =
 -- where no day passes the test, every duration stays
 pub longest_none : (q : ℤ → Bool) (w : Days) (m : ℤ) → ((i : ℤ) → q i ≡ true → ⊥) → Longest q w m m
 longest_none q w m f = record { most = omega z; cut = λ v c d. absurd (omega z); kept = λ v c y. f y.day y.bad }
-
--- ---- half a difference
-pub record Halved (w : Days) (x : ℤ) : Type 0 where
-  pub whole : SFits w64 x
-  pub part : SFits w64 (quot_z x (pos 2))
-  pub half : Half w (quot_z x (pos 2))
-
-pub halved : (w : Days) (x : ℤ) → x ≡ w.to.0 -ℤ w.from.0 → Dated w → Halved w x
-halved w (pos n) e h =
-    let y = pos (n / 2) in
-    let d = -z w.to.0 w.from.0 in
-    record { whole = omega (z, d); part = omega (z, d); half = omega (z, d, +z y y, +z (y +ℤ y) (pos 1)) }
-halved w (negsuc n) e h = absurd (omega (z, -z w.to.0 w.from.0))
-
--- ---- differences of days fit
-module _ (p : Part) (w : Days) (h : Placed p) (k : Dated w) (e : lt_z p.from.0 p.to.0 ≡ true) where
-  pub fits_from : SFits w64 (p.from.0 -ℤ w.from.0)
-  fits_from = omega (z, -z p.from.0 w.from.0)
-
-  pub fits_to : SFits w64 (w.to.0 -ℤ p.to.0)
-  fits_to = omega (z, -z w.to.0 p.to.0)
-
-pub fits_whole : (w : Days) → Dated w → SFits w64 (w.to.0 -ℤ w.from.0)
-fits_whole w h = omega (z, -z w.to.0 w.from.0)

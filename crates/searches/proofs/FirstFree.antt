@@ -7,8 +7,6 @@ use Prim.Native.Nat.{ℕ, ◌+◌, ◌≤◌, ◌<◌}
 use lib.ListN.{length, drop, get_or}
 use lib.IntN.{ℤ, pos, ◌+ℤ◌}
 use lib.Signed.{le_z, lt_z, ◌≤ℤ◌, ◌<ℤ◌}
-use mir.Syntax.{w64}
-use mir.Val.{SFits}
 use Rattle.integers.specs.Tests.{if, and}
 use Rattle.integers.specs.Whole.{larger}
 use Rattle.integers.specs.Ends.{Within}
@@ -19,7 +17,7 @@ use Rattle.stretches.specs.View.{stretches_of, no_stretch}
 use Rattle.stretches.specs.Tells.{Ordered}
 use Rattle.searches.specs.declared.Part.{Part}
 use Rattle.searches.specs.declared.Reach.{Reach}
-use Rattle.searches.specs.Searches.{barred_part, on_part, hit_days, ForBars, Hit, FirstFree, near_ends, Dated, Placed, Short, past}
+use Rattle.searches.specs.Searches.{barred_part, on_part, hit_days, ForBars, Hit, FirstFree, near_ends, Dated, Placed, past}
 use Rattle.searches.proofs.Parts.{lt_cases, on_part_is, on_part_in, hit_none, hit_first, hit_later, hit_cases, hit_so}
 use Rattle.searches.proofs.Order.{ordered_rest, ordered_first}
 use Rattle.searches.proofs.Walks.{rest_more, rest_none, for_tests}
@@ -144,6 +142,3 @@ past_near p v h n =
     if-case (Within near_ends) (and p.hit (and (lt_z p.from.0 p.to.0) (lt_z v p.to.0))) p.to.0 v
     (λ e. let a : lt_z v p.to.0 ≡ true = and_second (lt_z p.from.0 p.to.0) _ (and_second p.hit _ e) in omega z)
     (λ e. n)
-
-pub fits_plus : (d v : ℤ) → Short d → Within near_ends v → SFits w64 (v +ℤ d)
-fits_plus d v h n = omega (z, +z v d)

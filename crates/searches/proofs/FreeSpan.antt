@@ -1,16 +1,13 @@
 -- What is left of a range between its first and its last free value; ends, searched as origins.
 use mathlib.Core.Path.{◌≡◌, sym, ap₂, subst}
 use mathlib.Core.Bool.{Bool, true}
-use lib.IntN.{ℤ, pos, ◌+ℤ◌, ◌-ℤ◌}
-use lib.Signed.{◌≤ℤ◌, ◌<ℤ◌}
-use mir.Syntax.{w64}
-use mir.Val.{SFits}
-use Rattle.integers.specs.Ends.{Within}
+use lib.IntN.{ℤ, ◌+ℤ◌, ◌-ℤ◌}
+use lib.Signed.{◌<ℤ◌}
 use Rattle.integers.proofs.Z.{z, +z, -z}
 use Rattle.plan.specs.declared.Day.{Day}
 use Rattle.plan.specs.declared.Span.{Span}
 use Rattle.plan.specs.Days.{day}
-use Rattle.searches.specs.Searches.{Hit, FirstFree, LastFree, Freed, FreedEnds, near_ends, close_ends, Short, earlier, later}
+use Rattle.searches.specs.Searches.{Hit, FirstFree, LastFree, Freed, FreedEnds, earlier, later}
 
 module _ (q : ℤ → Bool) (d : ℤ) (s : Span) where
   -- every value is free
@@ -24,10 +21,6 @@ module _ (q : ℤ → Bool) (d : ℤ) (s : Span) where
         free_low = λ e. f s.low.0;
         free_high = λ e. f s.high.0;
       }
-
-  -- a task of no days is never hit
-  pub freed_bare : d ≤ℤ pos 0 → Freed q d s s
-  freed_bare h = whole (λ v e. omega (z, e.late, e.early, +z v d))
 
   -- nor is any where no day passes the test
   pub freed_none : ((i : ℤ) → q i ≡ true → ⊥) → Freed q d s s
@@ -65,10 +58,3 @@ pub freed_ends : (q : ℤ → Bool) (d : ℤ) (s o : Span) → Freed q d (earlie
 freed_ends q d s o f =
     let e : o ≡ earlier d (later d o) = ap₂ (λ (x y : ℤ). record { low = day x; high = day y }) (sym (moved o.low.0 d)) (sym (moved o.high.0 d)) in
     subst (λ (x : Span). Freed q d (earlier d s) x) e f
-
--- an end less a number of days is near
-pub fits_less : (d v : ℤ) → Short d → Within close_ends v → SFits w64 (v -ℤ d)
-fits_less d v h k = omega (z, -z v d)
-
-pub near_less : (d v : ℤ) → Short d → Within close_ends v → Within near_ends (v -ℤ d)
-near_less d v h k = omega (z, -z v d)

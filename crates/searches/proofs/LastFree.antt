@@ -8,8 +8,6 @@ use native.Mathlib.Nat.{not-suc-le-zero, le_of_suc-le-suc}
 use lib.ListN.{length, take, get_or}
 use lib.IntN.{ℤ, pos, ◌+ℤ◌, ◌-ℤ◌}
 use lib.Signed.{le_z, lt_z, ◌≤ℤ◌, ◌<ℤ◌}
-use mir.Syntax.{w64}
-use mir.Val.{SFits}
 use Rattle.integers.specs.Tests.{if, and}
 use Rattle.integers.specs.Whole.{larger, smaller}
 use Rattle.integers.specs.Ends.{Within}
@@ -150,6 +148,3 @@ back_near p d v h k n =
     let a : lt_z p.from.0 (v +ℤ d) ≡ true = and_second (lt_z p.from.0 p.to.0) _ (and_second p.hit _ e) in
     omega (z, +z v d, -z p.from.0 d))
     (λ e. n)
-
-pub fits_back : (p : Part) (d : ℤ) → Placed p → Short d → lt_z p.from.0 p.to.0 ≡ true → SFits w64 (p.from.0 -ℤ d)
-fits_back p d h k e = omega (z, -z p.from.0 d)

@@ -20,8 +20,6 @@ abbrev pub no_days : Days → Days
 no_days w = record { from = w.to; to = w.from }
 
 -- ---- the days found lie among the task's
-pub both_none : (w : Days) → w.from.0 ≤ℤ w.to.0 → BothIn (days_in w) (days_in (no_days w))
-both_none w h = omega z
 
 pub both_more : (w : Days) (u : Stretch) (b : Bool) (s : Days) → BothIn (days_in w) (days_in s) → BothIn (days_in w) (days_in (joined (part_of w u b) s))
 both_more w u b s h =
@@ -107,7 +105,3 @@ pub needed_of : (part : Stretch → Part) (w : Days) (ss : List Stretch) → Nee
 needed_of part w ss =
     let a = all_more (hit_days part ss) w part ss (λ i e. e) (no_days w) (record { first = λ h. absurd (omega z); last = λ h. absurd (omega z) }) in
     record { between = a.holds; first = a.found.first; last = a.found.last }
-
--- where no day passes the test
-pub needed_none : (q : ℤ → Bool) (w : Days) → ((i : ℤ) → q i ≡ true → ⊥) → Needed q w (no_days w)
-needed_none q w f = record { first = λ h. absurd (omega z); last = λ h. absurd (omega z); between = λ i e. absurd (f i e) }

@@ -1,5 +1,5 @@
 -- Stretches in order: each has a day, and an earlier one ends before a later one begins; how many begin before a day, by halves.
-use mathlib.Core.Path.{◌≡◌, sym, subst}
+use mathlib.Core.Path.{◌≡◌, subst}
 use mathlib.Core.List.{List, [], ◌∷◌}
 use Prim.Native.Nat.{ℕ, zero, suc, ◌+◌, ◌-◌, ◌≤◌, ◌<◌}
 use native.Mathlib.Nat.{not-suc-le-zero, le_of_suc-le-suc}
@@ -75,9 +75,6 @@ module _ (ss : List Stretch) (d : ℤ) where
             below_cases mid k
             (λ c. let x = ordered_apart ss o mid k c n in let y = ordered_full ss o mid l in omega z)
             (λ c. let e : mid ≡ k = omega arith in subst (λ (j : ℕ). d ≤ℤ (get_or ss j no_stretch).from.0) e h)
-
-  pub begun_end : (low high : ℕ) → low ≡ high → Begun ss d low high → Begun ss d low low
-  begun_end low high e b = subst (λ (n : ℕ). Begun ss d low n) (sym e) b
 
   -- of the stretches that begin before d, all but the last end by then
   pub begun_past : Ordered ss → (n : ℕ) → n ≤ length ss → Begun ss d n n → (k : ℕ) → k < n - 1 → k < length ss → (get_or ss k no_stretch).to.0 ≤ℤ d

@@ -99,9 +99,6 @@ module _ (ts : List Task) (out : List ℕ) (from : ℕ) where
     pub still : sets now at (task_lines i (drop i ts)) ≡ sets out from (task_lines 0 ts)
     pub count : at + length (task_lines i (drop i ts)) ≡ from + length (task_lines 0 ts)
 
-  pub lines_start : Lines 0 from out
-  lines_start = record { upto = omega arith; room = refl; near = omega arith; still = refl; count = refl }
-
   module _ (d : Task) {i at past : ℕ} {now later : List ℕ} (r : Lines i at now) (h : i < length ts) (p : Put now at (task_line i (get_or ts i d)) most_task_line later past) where
     step : task_lines i (drop i ts) ≡ task_line i (get_or ts i d) ++ task_lines (suc i) (drop (suc i) ts)
     unfolding task_lines

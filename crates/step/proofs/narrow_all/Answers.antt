@@ -2,32 +2,22 @@
 use native.Mathlib.Omega.{arith}
 use mathlib.Core.Path.{◌≡◌, refl, sym, ap, ◌∙◌, subst}
 use mathlib.Core.Bool.{false}
-use mathlib.Core.List.{List}
-use Prim.Native.Nat.{ℕ, ◌<◌}
+use Prim.Native.Nat.{◌<◌}
 use lib.ListN.{length, get_or}
 use Rattle.integers.specs.Lists.{In}
 use Rattle.integers.proofs.Tests.{clash}
 use Rattle.integers.proofs.Lists.{in_at, each_in}
 use Rattle.plan.specs.declared.Task.{Task}
 use Rattle.plan.specs.Tasks.{no_task}
-use Rattle.rules.specs.Frame.{Floor}
-use Rattle.rules.specs.Balance.{each}
 use Rattle.rules.specs.Step.{narrowed, listed_days}
-use Rattle.rules.proofs.Walk.{each_left, each_start, each_kept, each_same, each_out, each_end}
+use Rattle.rules.proofs.Walk.{each_start, each_kept, each_same, each_out, each_end}
 use Rattle.rows.specs.View.{tasks_of}
 use Rattle.rows.proofs.View.{length_tasks}
 use Rattle.rows.proofs.Walk.{begun_start, begun_next, begun_more, begun_same}
-use Rattle.stretches.specs.declared.Stretch.{Stretch}
 use Rattle.stretches.specs.View.{stretches_of}
-use Rattle.step.specs.Told.{TellsAll}
 use Rattle.step.proofs.Listed.{by_page, calm_kept}
 use Rattle.step.proofs.narrow_all.Goals.{then-asks_more+in-Kept, else-asks_more}
 use Rattle.step.proofs.narrow_all.Goals as goal
-
--- what is left to do gives the answer
-abbrev Left : ℕ → List Stretch → List Task → ℕ → List Task → Type 0
-Left r ss ts i us =
-    (limit : Floor) → TellsAll r limit ts ss → each_left (narrowed r limit ts (listed_days ts)) i us ≡ each (narrowed r limit ts (listed_days ts)) ts
 
 pub loop-i-init : goal.loop-i-init
 loop-i-init c = let ts = tasks_of c.args.s.now in
