@@ -107,7 +107,7 @@ pub fn unpack_tasks(s: &[TaskRow]) -> [Task; MOST_TASKS]
 // ---- the calls
 
 // An answer, the array of tasks, and how many of its first places are to be stored in the caller's list.
-#[derive(Drop)]
+#[derive(Clone, Copy)]
 pub struct Applied {
     pub answer: Answer,
     pub list: [Task; MOST_TASKS],

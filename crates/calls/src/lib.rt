@@ -72,7 +72,7 @@ fn apply_in_rows(
     ss: &mut [StretchRow],
     out: &mut [u8],
 ) -> u64
-    requires resources_in_bounds { (h.resources ≤ length q.old) × (h.tasks ≤ length s.old) }
+    requires counted { (h.resources ≤ length q.old) × (h.tasks ≤ length s.old) }
     requires lent { Lent h.tasks (room_if (held_in h.resources file.now) + length b.old) (length keys.old) (length spare.old) (length ss.old) }
     ensures { RowsAnswered c (length b.old) h file.now out.old result out.new }
 {
@@ -108,7 +108,7 @@ fn apply_unbanded(
     ss: &mut [StretchRow],
     out: &mut [u8],
 ) -> u64
-    requires resources_in_bounds { (h.resources ≤ length q.old) × (h.tasks ≤ length s.old) }
+    requires counted { (h.resources ≤ length q.old) × (h.tasks ≤ length s.old) }
     requires lent { Lent h.tasks (room_if (held_in h.resources file.now)) (length keys.old) (length spare.old) (length ss.old) }
     ensures { RowsAnswered c 0 h file.now out.old result out.new }
 {
@@ -129,7 +129,7 @@ fn apply_banded_rows(
     ss: &mut [StretchRow],
     out: &mut [u8],
 ) -> u64
-    requires resources_in_bounds { (h.resources ≤ length q.old) × (h.tasks ≤ length s.old) }
+    requires counted { (h.resources ≤ length q.old) × (h.tasks ≤ length s.old) }
     requires lent { Lent h.tasks (held_events + length b.old) (length keys.old) (length spare.old) (length ss.old) }
     ensures { RowsAnswered c (length b.old) h file.now out.old result out.new }
 {

@@ -10,21 +10,21 @@ use plan::{
 };
 
 // The first tasks of a list, as many as a plan may have, and how many the list has in truth.
-#[derive(Drop)]
+#[derive(Clone, Copy)]
 pub struct Tasks {
     pub list: [Task; MOST_TASKS],
     pub count: usize,
 }
 
 // The first resources of a list, and how many the list has in truth.
-#[derive(Drop)]
+#[derive(Clone, Copy)]
 pub struct Resources {
     pub list: [Resource; MOST_RESOURCES],
     pub count: usize,
 }
 
 // The first bands of a list, and how many the list has in truth.
-#[derive(Drop)]
+#[derive(Clone, Copy)]
 pub struct Bands {
     pub list: [Band; MOST_BANDS],
     pub count: usize,

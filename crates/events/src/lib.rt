@@ -109,7 +109,7 @@ pub const EVENTS_A_TASK: usize = 4;
 
 // an event and its opposite, behind the first n
 pub fn put_change(keys: &mut [u64], n: usize, e: Change) -> usize
-    requires n_in_bounds { n + 2 ≤ length keys.old }
+    requires enough { n + 2 ≤ length keys.old }
     requires change_fits { ChangeFits e }
     ensures { Laid keys.old keys.new n result (change_keys e) }
 {
@@ -184,7 +184,7 @@ fn sure_over(t: Task, p: Power) -> Change
 
 // the events of a task that has r in its set, behind the first n; where its possible days are its sure ones, two events say both
 fn put_events(keys: &mut [u64], n: usize, t: Task, r: u64) -> usize
-    requires events_atask_in_bounds { (n + events_a_task ≤ length keys.old) × (r < set_bits) }
+    requires enough { (n + events_a_task ≤ length keys.old) × (r < set_bits) }
     requires bounded { Bounded t }
     ensures { Laid keys.old keys.new n result (task_keys r t) }
 {
@@ -254,7 +254,7 @@ pub struct Collected {
 
 // the events of task i, where it has r in its set, behind those of the tasks before it
 fn collect_task(s: &[TaskRow], i: usize, r: u64, keys: &mut [u64], c: Collected) -> Collected
-    requires i_in_bounds { (i < length s.now) × (r < set_bits) × (c.events + events_a_task ≤ length keys.old) }
+    requires enough { (i < length s.now) × (r < set_bits) × (c.events + events_a_task ≤ length keys.old) }
     requires bounded { Bounded (get_or (tasks_of s.now) i no_task) }
     ensures laid { Laid keys.old keys.new c.events result.events (events_of r (get_or (tasks_of s.now) i no_task)) }
     ensures extremes_value { result.extremes ≡ joined r c.extremes (get_or (tasks_of s.now) i no_task) }
@@ -272,7 +272,7 @@ fn collect_task(s: &[TaskRow], i: usize, r: u64, keys: &mut [u64], c: Collected)
 
 // the events of every task that has r in its set
 pub fn collect(s: &[TaskRow], r: u64, keys: &mut [u64]) -> Collected
-    requires r_lt_set_bits { (r < set_bits) × (length s.now ≤ most_tasks) × (events_a_task * length s.now ≤ length keys.old) }
+    requires enough { (r < set_bits) × (length s.now ≤ most_tasks) × (events_a_task * length s.now ≤ length keys.old) }
     requires each { Each Bounded (tasks_of s.now) }
     ensures laid { Laid keys.old keys.new 0 result.events (keys_of r (tasks_of s.now)) }
     ensures extremes_value { result.extremes ≡ extremes_of r no_extremes (tasks_of s.now) }

@@ -118,7 +118,7 @@ fn read_body(
     s: &mut [TaskRow],
 ) -> Run
     requires { (h.resources ≤ length q.old) × (h.tasks ≤ length s.old) }
-    ensures s_after { read_through result (header_plan h q.new b.new s.new) ≡ read_body (length b.old) h file.now }
+    ensures read { read_through result (header_plan h q.new b.new s.new) ≡ read_body (length b.old) h file.now }
     ensures run_within { RunWithin result (length b.new) }
 {
     let listed = read_resources(file, h, q);
@@ -149,7 +149,7 @@ pub fn read_rest(
     s: &mut [TaskRow],
 ) -> Run
     requires { (h.resources ≤ length q.old) × (h.tasks ≤ length s.old) }
-    ensures s_after { read_through result (header_plan h q.new b.new s.new) ≡ read_after (length b.old) h file.now }
+    ensures read { read_through result (header_plan h q.new b.new s.new) ≡ read_after (length b.old) h file.now }
     ensures run_within { RunWithin result (length b.new) }
 {
     let body = read_body(file, h, q, b, s);
@@ -193,7 +193,7 @@ fn read_into(
     s: &mut [TaskRow],
 ) -> Run
     requires { (h.resources ≤ length q.old) × (most_bands ≤ length b.old) × (h.tasks ≤ length s.old) }
-    ensures s_after { read_through result (header_plan h q.new b.new s.new) ≡ lent_after places band_room room file.now (HeaderAnswer.Counts h) }
+    ensures read { read_through result (header_plan h q.new b.new s.new) ≡ lent_after places band_room room file.now (HeaderAnswer.Counts h) }
     ensures run_within { RunWithin result (length b.new) }
 {
     let lists = check_lists(h, places, room);
@@ -216,7 +216,7 @@ pub fn read_lent(
     s: &mut [TaskRow],
 ) -> ReadAnswer
     requires { (most_resources ≤ length q.old) × (most_bands ≤ length b.old) × (most_tasks ≤ length s.old) }
-    ensures s_after { answer_plan result q.new b.new s.new ≡ read_lent places band_room room file.now }
+    ensures read { answer_plan result q.new b.new s.new ≡ read_lent places band_room room file.now }
     ensures answer_within { AnswerWithin result (length q.new) (length b.new) (length s.new) }
 {
     let first = read_header(file);

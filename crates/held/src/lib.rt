@@ -68,7 +68,7 @@ fn span_change(e: Span) -> Change
 
 // its keys behind the first n, where it has a day
 fn put_span(keys: &mut [u64], n: usize, e: Span) -> usize
-    requires held_events_in_bounds { n + held_events ≤ length keys.old }
+    requires enough { n + held_events ≤ length keys.old }
     requires change_fits { ChangeFits (span_change e) }
     ensures laid { Laid keys.old keys.new n result (span_keys e) }
     ensures upper_bound { result ≤ n + held_events }
@@ -82,7 +82,7 @@ fn put_span(keys: &mut [u64], n: usize, e: Span) -> usize
 
 // The keys of a held resource's span behind the first n; a plain one has none.
 pub fn put_held(s: &[TaskRow], r: u64, kind: Kind, keys: &mut [u64], n: usize) -> usize
-    requires r_lt_set_bits { (r < set_bits) × (n + room_if (is_held kind) ≤ length keys.old) }
+    requires enough { (r < set_bits) × (n + room_if (is_held kind) ≤ length keys.old) }
     requires each { Each Bounded (tasks_of s.now) }
     ensures laid { Laid keys.old keys.new n result (held_keys r kind (tasks_of s.now)) }
     ensures upper_bound { result ≤ n + room_if (is_held kind) }

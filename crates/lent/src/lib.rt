@@ -98,7 +98,7 @@ pub fn write(
 
 // ---- reading
 // What is taken out of a file: the answer, and for each list an array and how many of its first places are to be stored.
-#[derive(Drop)]
+#[derive(Clone, Copy)]
 pub struct Taken {
     pub answer: ReadAnswer,
     pub resources: [Resource; MOST_RESOURCES],

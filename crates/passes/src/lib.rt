@@ -34,7 +34,7 @@ pub fn resource_step(
     spare: &mut [u64],
     ss: &mut [StretchRow],
 ) -> Passed
-    requires r_in_bounds { (r < length q.now) × Ready q.now b.now s.old keys.old spare.old ss.old }
+    requires ready { (r < length q.now) × Ready q.now b.now s.old keys.old spare.old ss.old }
     requires idle { Idle p.mask (at_least q.now b.now) (tasks_of s.old) }
     ensures { TookRows (λ f. resource_step f r) q.now b.now p.changed s.old result s.new }
 {
@@ -60,7 +60,7 @@ fn steps_rows(
     spare: &mut [u64],
     ss: &mut [StretchRow],
 ) -> Passed
-    requires ok_value { (first.ok ≡ true) × Ready q.now b.now s.old keys.old spare.old ss.old }
+    requires ready { (first.ok ≡ true) × Ready q.now b.now s.old keys.old spare.old ss.old }
     requires idle { Idle first.mask (at_least q.now b.now) (tasks_of s.old) }
     ensures { TookRows (λ f. steps f (places f)) q.now b.now first.changed s.old result s.new }
 {

@@ -110,7 +110,7 @@ fn put_worthy(s: &mut [StretchRow], n: usize, t: Stretch, e: Extremes) -> usize
 
 // the stretches that rising keys make, each with a start on which the sums have been added up
 fn sweep(keys: &[u64], start: Power, e: Extremes, s: &mut [StretchRow]) -> usize
-    requires keys_len_bound { (length keys.now ≤ most_events most_tasks most_more) × (length keys.now < length s.old) }
+    requires enough { (length keys.now ≤ most_events most_tasks most_more) × (length keys.now < length s.old) }
     requires within { Within power_ends start.0 }
     ensures laid { Laid (stretches_of s.old) (stretches_of s.new) 0 result (swept_from e start.0 keys.now) }
     ensures upper_bound { result ≤ length s.new }
@@ -144,7 +144,7 @@ fn sweep_events(
     e: Extremes,
     s: &mut [StretchRow],
 ) -> usize
-    requires n_in_bounds { (n ≤ length keys.old) × (n ≤ most_events most_tasks most_more) × (n ≤ 2 * length spare.old) × (n < length s.old) }
+    requires enough { (n ≤ length keys.old) × (n ≤ most_events most_tasks most_more) × (n ≤ 2 * length spare.old) × (n < length s.old) }
     requires within { Within power_ends start.0 }
     ensures { Sweeps e start.0 (take n keys.old) (stretches_of s.new) result }
 {
@@ -212,7 +212,7 @@ fn put_floor(
     keys: &mut [u64],
     n: usize,
 ) -> Levels
-    requires r_lt_set_bits { (r < set_bits) × (n + room_if (is_held kind) + length b.now ≤ length keys.old) × Banded r (bands_of b.now) × Within power_ends limit.0 }
+    requires enough { (r < set_bits) × (n + room_if (is_held kind) + length b.now ≤ length keys.old) × Banded r (bands_of b.now) × Within power_ends limit.0 }
     requires each { Each Bounded (tasks_of s.now) }
     ensures laid { Laid keys.old keys.new n result.events (held_keys r kind (tasks_of s.now) ++ band_keys r e.low.0 e.high.0 limit.0 (bands_of b.now)) }
     ensures start_value { result.start ≡ power (limit_from r limit.0 (bands_of b.now) e.low.0) }

@@ -271,7 +271,7 @@ fn seen_by(t: Task, u: Task) -> u64
 }
 
 // What a step says of the list that it changed in place: a plan is left, and the places that see a changed task.
-#[derive(Drop)]
+#[derive(Clone, Copy)]
 pub struct Stepped {
     pub ok: bool,
     pub touched: u64,

@@ -122,8 +122,8 @@ fn put_tasks(b: &mut [u8], n: usize, k: usize, s: &[TaskRow])
 
 // The bytes of a plan that passes the checks, into a buffer that has room for them.
 pub fn put_plan(sense: Sense, q: &[ResourceRow], b: &[BandRow], s: &[TaskRow], out: &mut [u8])
-    requires s_value { check (frame_of sense q.now b.now) (tasks_of s.now) ≡ Accepted }
-    requires out_value { room_for (file_length (length q.now) (length b.now) (length s.now)) (length out.old) ≡ Accepted }
+    requires accepted { check (frame_of sense q.now b.now) (tasks_of s.now) ≡ Accepted }
+    requires room { room_for (file_length (length q.now) (length b.now) (length s.now)) (length out.old) ≡ Accepted }
     ensures { out.new ≡ laid (written (frame_of sense q.now b.now) (tasks_of s.now)) out.old }
 {
     let header = Header {

@@ -21,11 +21,11 @@ apply_to_plan-requires c =
     let s = c.read_rest.new.s in
     let h = c.args.h in
     let read_as : (a : Run) → c.read_rest.result ≡ a → read_through a (header_plan h q b s) ≡ read_after (length c.args.b.now) h c.args.file.now =
-    λ a e. ap (λ (x : Run). read_through x (header_plan h q b s)) (sym e) ∙ c.read_rest.ensures.s_after in
+    λ a e. ap (λ (x : Run). read_through x (header_plan h q b s)) (sym e) ∙ c.read_rest.ensures.read in
     let k = c.in-Through.k in
     let e = c.in-Through.is in
     let l = c.requires.lent in
-    let few : h.tasks ≤ length s = omega (arith, c.requires.resources_in_bounds.1, c.read_rest.auto.s) in
+    let few : h.tasks ≤ length s = omega (arith, c.requires.counted.1, c.read_rest.auto.s) in
     let some : k ≤ length b = rw e at c.read_rest.ensures.run_within in
     let t = length-take-le h.tasks s few in
     let u = length-take-le k b some in

@@ -51,7 +51,7 @@ put_plan-requires c =
     (sym c.check_lent.ensures ∙ c.in-Accepted.is) in
     let left : check (frame_of c.args.sense c.apply.new.q c.apply.new.b) us ≡ Accepted =
     rw (restored.0, restored.1) (call_keeps f ts c.args.c n us accepted (sym (call_is (Answer.Done n) e))).accepted in
-    record { s_value = left; out_value = rw (c.apply.auto.q, c.apply.auto.b, c.apply.auto.s) room.1 }
+    record { accepted = left; room = rw (c.apply.auto.q, c.apply.auto.b, c.apply.auto.s) room.1 }
 
 pub returns-in-Refused : goal.returns-in-Refused
 returns-in-Refused c =

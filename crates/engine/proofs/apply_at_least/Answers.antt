@@ -41,7 +41,7 @@ resource_step-o-requires c =
     let b = d in
     let n = length b.args.q.now in
     let p = c.in-Step.p in
-    record { r_in_bounds = (ltb-true p n (ap (placed_in n) (sym c.in-Step.is) ∙ b.requires.0), b.requires.1); idle = rw m.no_steps.ensures.2 (all_idle f ts b.requires.1.accepted) }
+    record { ready = (ltb-true p n (ap (placed_in n) (sym c.in-Step.is) ∙ b.requires.0), b.requires.1); idle = rw m.no_steps.ensures.2 (all_idle f ts b.requires.1.accepted) }
 
 pub pass_rows-o-requires : goal.pass_rows-o-requires
 pass_rows-o-requires c =

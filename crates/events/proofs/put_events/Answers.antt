@@ -15,9 +15,9 @@ returns-then-is_fixed c =
     )
     (rw c.hope_over.ensures at c.put_change.ensures)
 
-pub put_change-requires-then-is_surely-clause-n_in_bounds : goal.put_change-requires-then-is_surely-clause-n_in_bounds
+pub put_change-requires-then-is_surely-clause-enough : goal.put_change-requires-then-is_surely-clause-enough
 unfolding change_keys
-put_change-requires-then-is_surely-clause-n_in_bounds c = omega (arith, c.put_change-m.ensures.many, c.put_change-m.auto.keys)
+put_change-requires-then-is_surely-clause-enough c = omega (arith, c.put_change-m.ensures.many, c.put_change-m.auto.keys)
 
 pub returns-then-is_surely : goal.returns-then-is_surely
 unfolding task_keys

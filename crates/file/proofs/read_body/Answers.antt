@@ -27,30 +27,30 @@ banded : (h : Header) (file : List ℕ) {from room k : ℕ} {r : Run} {list : Li
 unfolding bands_in
 banded h file e b g = bands_through e b g
 
-pub returns-in_default-clause-s_after : goal.returns-in_default-clause-s_after
+pub returns-in_default-clause-read : goal.returns-in_default-clause-read
 unfolding read_body body_due
-returns-in_default-clause-s_after c =
+returns-in_default-clause-read c =
     rw (c.run_unless.ensures, c.in_default.is, sym c.read_resources-listed.ensures.answer ∙ c.in_default.is)
 
-pub returns-in_default-run-clause-s_after : goal.returns-in_default-run-clause-s_after
+pub returns-in_default-run-clause-read : goal.returns-in_default-run-clause-read
 unfolding read_body body_due
-returns-in_default-run-clause-s_after c =
+returns-in_default-run-clause-read c =
     let listed = sym c.read_resources-listed.ensures.answer ∙ c.in-Accepted.is in
     let g = c.in_default-run.is in
     rw (g, listed, bands_refused c.bands_from.ensures c.read_bands-run.ensures.read_bands g)
 
-pub returns-in_default-last-clause-s_after : goal.returns-in_default-last-clause-s_after
+pub returns-in_default-last-clause-read : goal.returns-in_default-last-clause-read
 unfolding read_body body_due
-returns-in_default-last-clause-s_after c =
+returns-in_default-last-clause-read c =
     let a = c.args in
     let listed = sym c.read_resources-listed.ensures.answer ∙ c.in-Accepted.is in
     let run = banded a.h a.file.now c.bands_from.ensures c.read_bands-run.ensures.read_bands c.in-Through.is in
     let g = c.in_default-last.is in
     rw (c.run_unless-in_default-last.ensures, g, listed, run.0, run.1, sym c.read_tasks-last.ensures.answer ∙ g)
 
-pub returns-then-end-file-clause-s_after : goal.returns-then-end-file-clause-s_after
+pub returns-then-end-file-clause-read : goal.returns-then-end-file-clause-read
 unfolding read_body body_due
-returns-then-end-file-clause-s_after c =
+returns-then-end-file-clause-read c =
     let a = c.args in
     let listed = sym c.read_resources-listed.ensures.answer ∙ c.in-Accepted.is in
     let run = banded a.h a.file.now c.bands_from.ensures c.read_bands-run.ensures.read_bands c.in-Through.is in
@@ -64,9 +64,9 @@ returns-then-end-file-clause-s_after c =
       lt-ltb (file_length a.h.resources c.in-Through.k a.h.tasks) (length a.file.now) (rw long at c.if-end-file.true),
     )
 
-pub returns-clause-s_after : goal.returns-clause-s_after
+pub returns-clause-read : goal.returns-clause-read
 unfolding read_body body_due
-returns-clause-s_after c =
+returns-clause-read c =
     let a = c.args in
     let n = c.in-Through.k in
     let listed = sym c.read_resources-listed.ensures.answer ∙ c.in-Accepted.is in

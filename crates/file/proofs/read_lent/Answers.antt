@@ -11,22 +11,22 @@ read_into-rest-requires c =
     let few = header_few c.args.file.now (sym c.read_header-first.ensures ∙ c.in-Counts.is) in
     (omega (arith, few.resources, c.requires), omega (arith, c.requires), omega (arith, few.tasks, c.requires))
 
-pub returns-in-Refused-clause-s_after : goal.returns-in-Refused-clause-s_after
+pub returns-in-Refused-clause-read : goal.returns-in-Refused-clause-read
 unfolding read_lent
-returns-in-Refused-clause-s_after c = rw (sym c.read_header-first.ensures ∙ c.in-Refused.is)
+returns-in-Refused-clause-read c = rw (sym c.read_header-first.ensures ∙ c.in-Refused.is)
 
-pub returns-in-Refused-rest-clause-s_after : goal.returns-in-Refused-rest-clause-s_after
+pub returns-in-Refused-rest-clause-read : goal.returns-in-Refused-rest-clause-read
 unfolding read_lent
-returns-in-Refused-rest-clause-s_after c =
-    rw (sym c.read_header-first.ensures ∙ c.in-Counts.is) (rw c.in-Refused-rest.is at c.read_into-rest.ensures.s_after)
+returns-in-Refused-rest-clause-read c =
+    rw (sym c.read_header-first.ensures ∙ c.in-Counts.is) (rw c.in-Refused-rest.is at c.read_into-rest.ensures.read)
 
-pub returns-in-Through-clause-s_after : goal.returns-in-Through-clause-s_after
+pub returns-in-Through-clause-read : goal.returns-in-Through-clause-read
 unfolding read_lent
-returns-in-Through-clause-s_after c =
+returns-in-Through-clause-read c =
     let new = c.read_into-rest.new in
     let plan = header_plan c.in-Counts.h new.q new.b new.s in
     rw (sym c.read_header-first.ensures ∙ c.in-Counts.is, c.sense_from-sense.ensures)
-    (read_through_lem plan c.in-Through.is c.read_into-rest.ensures.s_after)
+    (read_through_lem plan c.in-Through.is c.read_into-rest.ensures.read)
 
 pub returns-in-Through-clause-answer_within : goal.returns-in-Through-clause-answer_within
 returns-in-Through-clause-answer_within c =

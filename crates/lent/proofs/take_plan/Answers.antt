@@ -5,7 +5,7 @@ use Rattle.lent.proofs.take_plan.Goals as goal
 pub returns-in-Refused : goal.returns-in-Refused
 returns-in-Refused c =
     let a = c.args in
-    takes_none a.places a.band_room a.room a.file.now c.unpack_resources-resources.result c.unpack_bands-bands.result c.unpack_tasks-tasks.result c.in-Refused.f c.in-Refused.ensures.s_after
+    takes_none a.places a.band_room a.room a.file.now c.unpack_resources-resources.result c.unpack_bands-bands.result c.unpack_tasks-tasks.result c.in-Refused.f c.in-Refused.ensures.read
 
 pub returns-in-Plan : goal.returns-in-Plan
 returns-in-Plan c =
@@ -15,7 +15,7 @@ returns-in-Plan c =
     takes_plan a.places a.band_room a.room a.file.now _ _ _ p.sense p.n p.k p.m
     r.new.q r.new.b r.new.s
     p.ensures.answer_within
-    p.ensures.s_after
+    p.ensures.read
     r.auto.q
     r.auto.b
     r.auto.s

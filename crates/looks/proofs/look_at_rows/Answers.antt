@@ -39,7 +39,7 @@ pub looked_for-requires : goal.looked_for-requires
 looked_for-requires c =
     let file = c.args.file.now in
     let h = c.in-Counts.h in
-    let read = c.in-Through.ensures.s_after ∙ ap (λ (n : ℕ). read_after n h file) c.requires.1 in
+    let read = c.in-Through.ensures.read ∙ ap (λ (n : ℕ). read_after n h file) c.requires.1 in
     (_, (after_is most_bands h file (sym read)).1)
 
 pub returns-in-Refused : goal.returns-in-Refused
@@ -50,7 +50,7 @@ pub returns-in-Refused-read_rest : goal.returns-in-Refused-read_rest
 returns-in-Refused-read_rest c =
     let file = c.args.file.now in
     let h = c.in-Counts.h in
-    let read = c.in-Refused-read_rest.ensures.s_after ∙ ap (λ (n : ℕ). read_after n h file) c.requires.1 in
+    let read = c.in-Refused-read_rest.ensures.read ∙ ap (λ (n : ℕ). read_after n h file) c.requires.1 in
     c.refusal_number-in-Refused-read_rest.ensures
     ∙ ap (read_number (looked_for c.args.counted)) (read ∙ plan_by file (HeaderAnswer.Counts h) c.in-Counts.ensures)
 
@@ -58,5 +58,5 @@ pub returns-in-Through : goal.returns-in-Through
 returns-in-Through c =
     let file = c.args.file.now in
     let h = c.in-Counts.h in
-    let read = c.in-Through.ensures.s_after ∙ ap (λ (n : ℕ). read_after n h file) c.requires.1 in
+    let read = c.in-Through.ensures.read ∙ ap (λ (n : ℕ). read_after n h file) c.requires.1 in
     c.looked_for.ensures ∙ ap (read_number (looked_for c.args.counted)) (read ∙ plan_by file (HeaderAnswer.Counts h) c.in-Counts.ensures)

@@ -56,7 +56,7 @@ steps_rows-requires c = let e = c in
     let d = e in
     let b = d in
     let ok = not-false d.balance-o.result.ok e.if-not-o.false in record {
-      ok_value = (
+      ready = (
         ok,
         stays_ready b.requires.0 d.balance-o.new.s b.args.keys.now b.args.spare.now b.args.ss.now
             (balance_keeps f ts b.requires.0.accepted passed us took ok).accepted d.balance-o.auto.s refl refl refl,

@@ -21,14 +21,14 @@ pub step-o-requires : goal.step-o-requires
 step-o-requires c =
     let f = at_least c.args.q.now c.args.b.now in
     let ts = tasks_of c.args.s.now in
-    let known : Accepts f ts = accepts f ts c.requires.r_in_bounds.1.accepted in
-    let inside : c.args.r < resource_count f = place_inside c.args.q.now c.args.b.now c.args.r c.requires.r_in_bounds.0 in
-    let small : c.args.r < 64 = place_small c.requires.r_in_bounds.1 c.args.r c.requires.r_in_bounds.0 in
+    let known : Accepts f ts = accepts f ts c.requires.ready.1.accepted in
+    let inside : c.args.r < resource_count f = place_inside c.args.q.now c.args.b.now c.args.r c.requires.ready.0 in
+    let small : c.args.r < 64 = place_small c.requires.ready.1 c.args.r c.requires.ready.0 in
     let l = c in
     let b = l in
     let k = known in
     let r = b.args.r in
-    let e = b.requires.r_in_bounds.1.lent in
+    let e = b.requires.ready.1.lent in
     let some = rw (sym c.kind_at-kind.ensures) at (room_at f.resources r (inside)) in record {
       asks = record {
         place = small;
@@ -42,14 +42,14 @@ step-o-requires c =
         spare_long = omega (arith, e.spare_long, some);
         stretches_long = omega (arith, e.stretches_long, some);
       };
-      each = check_wide f ts b.requires.r_in_bounds.1.accepted;
+      each = check_wide f ts b.requires.ready.1.accepted;
     }
 
 pub without_resource-requires : goal.without_resource-requires
 without_resource-requires c =
     let f = at_least c.args.q.now c.args.b.now in
     let ts = tasks_of c.args.s.now in
-    let small : c.args.r < 64 = place_small c.requires.r_in_bounds.1 c.args.r c.requires.r_in_bounds.0 in
+    let small : c.args.r < 64 = place_small c.requires.ready.1 c.args.r c.requires.ready.0 in
     small
 
 pub returns : goal.returns
@@ -57,7 +57,7 @@ unfolding limit_on union
 returns c =
     let f = at_least c.args.q.now c.args.b.now in
     let ts = tasks_of c.args.s.now in
-    let inside : c.args.r < resource_count f = place_inside c.args.q.now c.args.b.now c.args.r c.requires.r_in_bounds.0 in
+    let inside : c.args.r < resource_count f = place_inside c.args.q.now c.args.b.now c.args.r c.requires.ready.0 in
     let d = c in
     let g = d in
     let l = g in
@@ -65,7 +65,7 @@ returns c =
     let p = b.args.p in
     let r = b.args.r in
     rw (c.some_touched.ensures, c.without_resource.ensures)
-    (step_took f refl ts (tasks_of d.step-o.new.s) b.requires.r_in_bounds.1.accepted d.step-o.result d.step-o.ensures.noted r (inside) p.changed p.mask b.requires.idle
+    (step_took f refl ts (tasks_of d.step-o.new.s) b.requires.ready.1.accepted d.step-o.result d.step-o.ensures.noted r (inside) p.changed p.mask b.requires.idle
     (d.step-o.ensures.outcome
     ∙ ap₂ (λ (k : Kind) (x : Power). at_least_step r (floor k (limit_from r x.0 f.bands)) ts) g.kind_at-kind.ensures l.limit_at-limit.ensures
     ∙ sym (at_least_step_lem f refl r ts)))

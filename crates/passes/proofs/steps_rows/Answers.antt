@@ -21,8 +21,8 @@ pub loop-r-init : goal.loop-r-init
 loop-r-init c = let a = c in
     let f = at_least c.args.q.now c.args.b.now in
     let ts = tasks_of c.args.s.now in
-    let g = passing_start f ts a.requires.ok_value.1.accepted a.args.first a.requires.ok_value.0 a.requires.idle in
-    (refl, refl, refl, refl, a.requires.ok_value.0, rw c.lowest_resource-r.ensures (to_lowest f ts a.requires.ok_value.1.accepted a.args.first.changed a.args.first ts a.requires.ok_value.0 64 g))
+    let g = passing_start f ts a.requires.ready.1.accepted a.args.first a.requires.ready.0 a.requires.idle in
+    (refl, refl, refl, refl, a.requires.ready.0, rw c.lowest_resource-r.ensures (to_lowest f ts a.requires.ready.1.accepted a.args.first.changed a.args.first ts a.requires.ready.0 64 g))
 
 pub returns-then-not-p : goal.returns-then-not-p
 returns-then-not-p c =
@@ -34,8 +34,8 @@ returns-then-not-p c =
     let inside : l.r < resource_count f = place_inside c.args.q.now c.args.b.now l.r here in
     let o = c.resource_step-p in
     let us = tasks_of o.new.s in
-    let past : Passing f ts c.args.first.changed (l.r + 1) o.result us = passing_more f ts c.requires.ok_value.1.accepted c.args.first.changed l.r l.p (tasks_of l.s) v.5 inside v.4 o.result us o.ensures in
-    passing_none f ts c.requires.ok_value.1.accepted c.args.first.changed (l.r + 1) o.result us past (not_out o.result.ok c.if-not-p.true)
+    let past : Passing f ts c.args.first.changed (l.r + 1) o.result us = passing_more f ts c.requires.ready.1.accepted c.args.first.changed l.r l.p (tasks_of l.s) v.5 inside v.4 o.result us o.ensures in
+    passing_none f ts c.requires.ready.1.accepted c.args.first.changed (l.r + 1) o.result us past (not_out o.result.ok c.if-not-p.true)
 
 pub next_resource-r-requires : goal.next_resource-r-requires
 next_resource-r-requires c =
@@ -44,7 +44,7 @@ next_resource-r-requires c =
     let l = c.loop-r in
     let v = l.invariant in
     let here : l.r < length c.args.q.now = omega (arith, c.loop-r-test.true) in
-    let ready : Ready c.args.q.now c.args.b.now l.s l.keys l.spare l.ss = stays_ready c.requires.ok_value.1 l.s l.keys l.spare l.ss (v.5.keeps v.4).accepted v.0 v.1 v.2 v.3 in
+    let ready : Ready c.args.q.now c.args.b.now l.s l.keys l.spare l.ss = stays_ready c.requires.ready.1 l.s l.keys l.spare l.ss (v.5.keeps v.4).accepted v.0 v.1 v.2 v.3 in
     let small : l.r < 64 = place_small ready l.r here in
     small
 
@@ -55,7 +55,7 @@ loop-r-smaller c =
     let l = c.loop-r in
     let v = l.invariant in
     let here : l.r < length c.args.q.now = omega (arith, c.loop-r-test.true) in
-    let ready : Ready c.args.q.now c.args.b.now l.s l.keys l.spare l.ss = stays_ready c.requires.ok_value.1 l.s l.keys l.spare l.ss (v.5.keeps v.4).accepted v.0 v.1 v.2 v.3 in
+    let ready : Ready c.args.q.now c.args.b.now l.s l.keys l.spare l.ss = stays_ready c.requires.ready.1 l.s l.keys l.spare l.ss (v.5.keeps v.4).accepted v.0 v.1 v.2 v.3 in
     let small : l.r < 64 = place_small ready l.r here in
     let up : l.r < c.next_resource-r.result = subst (λ (n : ℕ). l.r < n) (sym c.next_resource-r.ensures) (next_above 64 _ l.r small) in
     omega (arith, here)
@@ -67,19 +67,19 @@ loop-r-preserved c =
     let l = c.loop-r in
     let v = l.invariant in
     let here : l.r < length c.args.q.now = omega (arith, c.loop-r-test.true) in
-    let ready : Ready c.args.q.now c.args.b.now l.s l.keys l.spare l.ss = stays_ready c.requires.ok_value.1 l.s l.keys l.spare l.ss (v.5.keeps v.4).accepted v.0 v.1 v.2 v.3 in
+    let ready : Ready c.args.q.now c.args.b.now l.s l.keys l.spare l.ss = stays_ready c.requires.ready.1 l.s l.keys l.spare l.ss (v.5.keeps v.4).accepted v.0 v.1 v.2 v.3 in
     let small : l.r < 64 = place_small ready l.r here in
     let inside : l.r < resource_count f = place_inside c.args.q.now c.args.b.now l.r here in
     let o = c.resource_step-p in
     let us = tasks_of o.new.s in
-    let past : Passing f ts c.args.first.changed (l.r + 1) o.result us = passing_more f ts c.requires.ok_value.1.accepted c.args.first.changed l.r l.p (tasks_of l.s) v.5 inside v.4 o.result us o.ensures in
+    let past : Passing f ts c.args.first.changed (l.r + 1) o.result us = passing_more f ts c.requires.ready.1.accepted c.args.first.changed l.r l.p (tasks_of l.s) v.5 inside v.4 o.result us o.ensures in
     let ok : o.result.ok ≡ true = not-false o.result.ok c.if-not-p.false in (
       o.auto.s ∙ v.0,
       o.auto.keys ∙ v.1,
       o.auto.spare ∙ v.2,
       o.auto.ss ∙ v.3,
       ok,
-      rw c.next_resource-r.ensures (to_next f ts c.requires.ok_value.1.accepted c.args.first.changed o.result us ok 64 l.r small past),
+      rw c.next_resource-r.ensures (to_next f ts c.requires.ready.1.accepted c.args.first.changed o.result us ok 64 l.r small past),
     )
 
 pub returns : goal.returns
@@ -87,5 +87,5 @@ returns c = let m = c in
     let f = at_least c.args.q.now c.args.b.now in
     let ts = tasks_of c.args.s.now in
     let a = m in
-    passing_end f ts a.requires.ok_value.1.accepted a.args.first.changed m.loop-r.r m.loop-r.p (tasks_of m.loop-r.s) m.loop-r.invariant.5
+    passing_end f ts a.requires.ready.1.accepted a.args.first.changed m.loop-r.r m.loop-r.p (tasks_of m.loop-r.s) m.loop-r.invariant.5
     (omega (arith, length_resources a.args.q.now))

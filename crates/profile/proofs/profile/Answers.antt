@@ -13,8 +13,8 @@ use Rattle.profile.proofs.Turns.{floor_turns}
 use Rattle.profile.proofs.Promise.{profiled}
 use Rattle.profile.proofs.profile.Goals as goal
 
-pub sweep_events-m-requires-clause-n_in_bounds : goal.sweep_events-m-requires-clause-n_in_bounds
-sweep_events-m-requires-clause-n_in_bounds c =
+pub sweep_events-m-requires-clause-enough : goal.sweep_events-m-requires-clause-enough
+sweep_events-m-requires-clause-enough c =
     let a = c.args in
     let l = c.put_floor-l in
     let q = c.collect-q in

@@ -13,7 +13,7 @@ use Rattle.report.proofs.report.Goals as goal
 pub report_plan-requires : goal.report_plan-requires
 report_plan-requires c =
     let read_as : (a : ReadAnswer) → c.read_lent.result ≡ a → answer_plan a c.read_lent.new.q c.read_lent.new.b c.read_lent.new.s ≡ read_plan c.args.file.now =
-    λ a e. ap (λ (x : ReadAnswer). answer_plan x c.read_lent.new.q c.read_lent.new.b c.read_lent.new.s) (sym e) ∙ c.read_lent.ensures.s_after ∙ lent_most c.args.file.now in
+    λ a e. ap (λ (x : ReadAnswer). answer_plan x c.read_lent.new.q c.read_lent.new.b c.read_lent.new.s) (sym e) ∙ c.read_lent.ensures.read ∙ lent_most c.args.file.now in
     let i = c.in-Plan in
     let plan_is = read_as (ReadAnswer.Plan i.sense i.n i.k i.m) i.is in
     ((whole (sym plan_is)).accepted, c.requires)
@@ -22,7 +22,7 @@ pub returns-in-Refused : goal.returns-in-Refused
 unfolding report_of
 returns-in-Refused c =
     let read_as : (a : ReadAnswer) → c.read_lent.result ≡ a → answer_plan a c.read_lent.new.q c.read_lent.new.b c.read_lent.new.s ≡ read_plan c.args.file.now =
-    λ a e. ap (λ (x : ReadAnswer). answer_plan x c.read_lent.new.q c.read_lent.new.b c.read_lent.new.s) (sym e) ∙ c.read_lent.ensures.s_after ∙ lent_most c.args.file.now in
+    λ a e. ap (λ (x : ReadAnswer). answer_plan x c.read_lent.new.q c.read_lent.new.b c.read_lent.new.s) (sym e) ∙ c.read_lent.ensures.read ∙ lent_most c.args.file.now in
     let k = told c.args.out.now (report_of c.args.file.now) (put_wider {k = most_text} (omega arith) c.put_refused.ensures) c.requires
     (ap read_text (read_as (ReadAnswer.Refused c.in-Refused.f) c.in-Refused.is)) in
     record { text = k.0; count = k.1.0; within = k.1.1 }
@@ -31,7 +31,7 @@ pub returns-in-Plan : goal.returns-in-Plan
 unfolding report_of
 returns-in-Plan c =
     let read_as : (a : ReadAnswer) → c.read_lent.result ≡ a → answer_plan a c.read_lent.new.q c.read_lent.new.b c.read_lent.new.s ≡ read_plan c.args.file.now =
-    λ a e. ap (λ (x : ReadAnswer). answer_plan x c.read_lent.new.q c.read_lent.new.b c.read_lent.new.s) (sym e) ∙ c.read_lent.ensures.s_after ∙ lent_most c.args.file.now in
+    λ a e. ap (λ (x : ReadAnswer). answer_plan x c.read_lent.new.q c.read_lent.new.b c.read_lent.new.s) (sym e) ∙ c.read_lent.ensures.read ∙ lent_most c.args.file.now in
     let i = c.in-Plan in
     let plan_is = read_as (ReadAnswer.Plan i.sense i.n i.k i.m) i.is in
     let k = told c.args.out.now (report_of c.args.file.now) c.report_plan.ensures c.requires (ap read_text plan_is) in
