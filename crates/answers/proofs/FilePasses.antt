@@ -1,5 +1,6 @@
 -- How many passes at most, of the calls on plan files, as statements; and settling a file in several calls. `most_file file` is what
 -- gristwaltz_most_passes answers, `file_call (Within most) file out` the promise of gristwaltz_settle_within.
+use Rattle.std.specs.Prelude.{Ok, Err}
 use mathlib.Core.Path.{◌≡◌, refl, sym, ap, ◌∙◌, subst}
 use mathlib.Core.Bool.{true}
 use mathlib.Core.List.{List, [], ◌∷◌}
@@ -13,12 +14,8 @@ use Rattle.integers.specs.Lists.Each.{also}
 use Rattle.plan.specs.declared.Task.{Task}
 use Rattle.plan.specs.declared.Call.{Call}
 use Rattle.plan.specs.declared.Call.TheVariants.{Check, Settle, Within, MostPasses}
-use Rattle.plan.specs.declared.Checked.{Checked}
-use Rattle.plan.specs.declared.Checked.TheVariants.{Accepted}
 use Rattle.plan.specs.declared.Refusal.{Refusal}
-use Rattle.plan.specs.declared.Answer.{Answer}
-use Rattle.plan.specs.declared.Answer.TheVariants.{Done, Refused}
-use Rattle.plan.specs.Refusals.{number, Told, told, told_answer}
+use Rattle.plan.specs.Refusals.{number, Told, told, told_answer, Answer, Checked, accepted}
 use Rattle.plan.proofs.Refusals.{number_ends}
 use Rattle.rules.specs.Frame.{Frame, resource_count}
 use Rattle.rules.specs.Settle.{Settled, settle_within, most_passes, settle}
@@ -55,24 +52,24 @@ file_within_bound file out most l = by_read (read_plan file) l
     by_read (Read.Refuse e) l = refl
 
 -- ---- where the output is too short both calls are refused alike; else they are the calls over lists
-same_file : (f : Frame) (ts : List Task) (most : ℕ) (out : List ℕ) → (room_for (length (written f ts)) (length out) ≡ Accepted → call_of (Within most) f ts ≡ call_of Settle f ts) → plan_file (Within most) f ts out ≡ plan_file Settle f ts out
+same_file : (f : Frame) (ts : List Task) (most : ℕ) (out : List ℕ) → (room_for (length (written f ts)) (length out) ≡ accepted → call_of (Within most) f ts ≡ call_of Settle f ts) → plan_file (Within most) f ts out ≡ plan_file Settle f ts out
 unfolding plan_call lent_due
 same_file f ts most out h = by_room (room_for (length (written f ts)) (length out)) refl
   where
     by_room : (k : Checked) → room_for (length (written f ts)) (length out) ≡ k → plan_file (Within most) f ts out ≡ plan_file Settle f ts out
-    by_room Accepted e = rw (e, h e)
-    by_room (Checked.Refused r) e = rw e
+    by_room (Ok _) e = rw (e, h e)
+    by_room (Err r) e = rw e
 
-roomy_number : (c : Call) (f : Frame) (ts : List Task) (out : List ℕ) → placed_in (resource_count f) c ≡ true → room_for (length (written f ts)) (length out) ≡ Accepted → (plan_call c f ts out).answer ≡ (call_of c f ts).answer
+roomy_number : (c : Call) (f : Frame) (ts : List Task) (out : List ℕ) → placed_in (resource_count f) c ≡ true → room_for (length (written f ts)) (length out) ≡ accepted → (plan_call c f ts out).answer ≡ (call_of c f ts).answer
 unfolding plan_call lent_due
 roomy_number c f ts out p e = rw (p, e)
 
 -- what the call over lists says, where it is done
-done_list : (f : Frame) (ts : List Task) (n : ℕ) → (call_of Settle f ts).answer ≡ Done n → list_call Settle f ts ≡ list_result (told 0 (n ∷ [])) (call_of Settle f ts).tasks
+done_list : (f : Frame) (ts : List Task) (n : ℕ) → (call_of Settle f ts).answer ≡ Ok n → list_call Settle f ts ≡ list_result (told 0 (n ∷ [])) (call_of Settle f ts).tasks
 unfolding list_call
 done_list f ts n e = rw e
 
-not_done : {P : Type 0} (e : Refusal) (n : ℕ) → Refused e ≡ Done n → P
+not_done : {P : Type 0} (e : Refusal) (n : ℕ) → ◌≡◌ {A = Answer} (Err e) (Ok n) → P
 not_done e n h = let q : ◌≡◌ {A = ℕ} 0 1 = cc in absurd (omega arith)
 
 -- settling that is not refused: the plan, that there is room for it, and the count
@@ -80,21 +77,21 @@ module _ (file out : List ℕ) where
   abbrev count : ℕ
   count = (file_call Settle file out).answer
 
-  by_answer : (f : Frame) (ts : List Task) → refusal_in count ≡ 0 → (a : Answer) → (plan_call Settle f ts out).answer ≡ a → Apart count a → (plan_call Settle f ts out).answer ≡ Done count
-  by_answer f ts d (Done n) e h = e ∙ ap Done (sym h.0)
-  by_answer f ts d (Refused r) e h = let n = (number_ends r).0 in let q = h.0 in absurd (omega arith)
+  by_answer : (f : Frame) (ts : List Task) → refusal_in count ≡ 0 → (a : Answer) → (plan_call Settle f ts out).answer ≡ a → Apart count a → (plan_call Settle f ts out).answer ≡ Ok count
+  by_answer f ts d (Ok n) e h = e ∙ ap Ok (sym h.0)
+  by_answer f ts d (Err r) e h = let n = (number_ends r).0 in let q = h.0 in absurd (omega arith)
 
-  plan_count : (f : Frame) (ts : List Task) → read_plan file ≡ Read.Plan f ts → refusal_in count ≡ 0 → (plan_call Settle f ts out).answer ≡ Done count
+  plan_count : (f : Frame) (ts : List Task) → read_plan file ≡ Read.Plan f ts → refusal_in count ≡ 0 → (plan_call Settle f ts out).answer ≡ Ok count
   plan_count f ts e d =
       by_answer f ts d (plan_call Settle f ts out).answer refl (subst (λ (x : Read). Apart count (read_outcome Settle out x)) e (call_apart Settle file out))
 
-  list_count : (f : Frame) (ts : List Task) → read_plan file ≡ Read.Plan f ts → refusal_in count ≡ 0 → (call_of Settle f ts).answer ≡ Done count
+  list_count : (f : Frame) (ts : List Task) → read_plan file ≡ Read.Plan f ts → refusal_in count ≡ 0 → (call_of Settle f ts).answer ≡ Ok count
   unfolding plan_call lent_due
   list_count f ts e d = by_room (room_for (length (written f ts)) (length out)) refl (plan_count f ts e d)
     where
-      by_room : (k : Checked) → room_for (length (written f ts)) (length out) ≡ k → (plan_call Settle f ts out).answer ≡ Done count → (call_of Settle f ts).answer ≡ Done count
-      by_room Accepted g h = sym (roomy_number Settle f ts out refl g) ∙ h
-      by_room (Checked.Refused r) g h = not_done r count (rw g at h)
+      by_room : (k : Checked) → room_for (length (written f ts)) (length out) ≡ k → (plan_call Settle f ts out).answer ≡ Ok count → (call_of Settle f ts).answer ≡ Ok count
+      by_room (Ok _) g h = sym (roomy_number Settle f ts out refl g) ∙ h
+      by_room (Err r) g h = not_done r count (rw g at h)
 
   -- "the reported pass count at most 1 plus all that could be removed": what settling answers where nothing is refused
   pub file_count_bound : refusal_in (file_call Settle file out).answer ≡ 0 → (file_call Settle file out).answer ≤ most_file file
@@ -105,7 +102,7 @@ module _ (file out : List ℕ) where
       by_read (Read.Plan f ts) e = count_bound f ts count (call_of Settle f ts).tasks (done_list f ts count (list_count f ts e d))
       by_read (Read.Refuse r) e =
           let n = (number_ends r).0 in
-          let h : Apart count (Refused r) = subst (λ (x : Read). Apart count (read_outcome Settle out x)) e (call_apart Settle file out) in
+          let h : Apart count (Err r) = subst (λ (x : Read). Apart count (read_outcome Settle out x)) e (call_apart Settle file out) in
           let q = h.0 in
           absurd (omega arith)
 
@@ -277,7 +274,7 @@ module _ (file : List ℕ) (bytes : AllBytes file) (out : List ℕ) where
     unfolding settle_file_again file_call
     first_refuses e h p parts =
         let n = (number_ends e).0 in
-        let a = answer_number (Refused e) in
+        let a = answer_number (Err e) in
         let refused : refusal_in a ≡ number e = omega arith in
         (rw (h, ne_eqb a 0 (λ z. omega arith), ne_eqb (refusal_in a) 0 (λ z. omega arith)), rw h refused)
 

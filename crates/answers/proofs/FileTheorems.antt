@@ -1,6 +1,7 @@
 -- Demand 3 of the calls on plan files, as statements. `file_call c file out` is the promise of the call c on a plan file and an output: the number
 -- it answers and the output later; `refusal_in` is the refusal in that number, 0 where nothing is refused; `file_left` is the file to go on
 -- from. Of a file it is asked that it has bytes: every lent file has.
+use Rattle.std.specs.Prelude.{Ok, Err}
 use mathlib.Core.Path.{◌≡◌, refl, sym, ap, ◌∙◌, subst}
 use mathlib.Core.Bool.{true}
 use mathlib.Core.List.{List, [], ◌∷◌, ◌++◌}
@@ -14,13 +15,9 @@ use Rattle.integers.proofs.Tests.{by_cases}
 use Rattle.plan.specs.declared.Task.{Task}
 use Rattle.plan.specs.declared.Call.{Call}
 use Rattle.plan.specs.declared.Call.TheVariants.{Step, Pass}
-use Rattle.plan.specs.declared.Checked.{Checked}
-use Rattle.plan.specs.declared.Checked.TheVariants.{Accepted}
 use Rattle.plan.specs.declared.Refusal.{Refusal}
 use Rattle.plan.specs.declared.Refusal.TheVariants.{NoPlan}
-use Rattle.plan.specs.declared.Answer.{Answer}
-use Rattle.plan.specs.declared.Answer.TheVariants.{Done, Refused}
-use Rattle.plan.specs.Refusals.{number, told_answer}
+use Rattle.plan.specs.Refusals.{number, told_answer, Answer, Checked}
 use Rattle.plan.proofs.Refusals.{number_ends, number_none}
 use Rattle.rules.specs.Frame.{Frame, resource_count}
 use Rattle.rules.specs.Allowed.{Choice, inside_all, allowed}
@@ -46,10 +43,10 @@ use Rattle.answers.proofs.Answers.{call_apart, lent_placed}
 
 -- ---- 12 and 10 are not 7
 abbrev number_of : Answer → ℕ
-number_of (Done n) = 0
-number_of (Refused f) = number f
+number_of (Ok n) = 0
+number_of (Err f) = number f
 
-lent_other : (c : Call) (resources file out : ℕ) (e : Refusal) → lent_due c resources file out ≡ Checked.Refused e → Refused e ≡ Refused NoPlan → ⊥
+lent_other : (c : Call) (resources file out : ℕ) (e : Refusal) → lent_due c resources file out ≡ Err e → ◌≡◌ {A = Answer} (Err e) (Err NoPlan) → ⊥
 lent_other c resources file out e h g = (subst (PlacedTo 0) h (lent_placed c resources file out)).1 (ap number_of g)
 
 -- ---- one call, on the writing of a plan that passes the checks
@@ -69,8 +66,8 @@ module _ (f : Frame) (ts : List Task) (g : Good f ts) (c : Call) (out : List ℕ
   plan_fair = fair due refl
     where
       fair : (k : Checked) → due ≡ k → Fair f ts (unless_refused k ts (call_of c f ts))
-      fair Accepted e = call_fair f ts c g.passes
-      fair (Checked.Refused r) e = refused_fair f ts r g.passes (λ s. absurd (lent_other c (resource_count f) (length file) (length out) r e s))
+      fair (Ok _) e = call_fair f ts c g.passes
+      fair (Err r) e = refused_fair f ts r g.passes (λ s. absurd (lent_other c (resource_count f) (length file) (length out) r e s))
 
   plan_stays : Stays ts x
   unfolding plan_call
@@ -97,17 +94,17 @@ module _ (f : Frame) (ts : List Task) (g : Good f ts) (c : Call) (out : List ℕ
       subst (Apart answer) e h
 
   refusal_is : (a : Answer) → x.answer ≡ a → refusal_in answer ≡ (told_answer a).number
-  refusal_is (Done n) e = (apart (Done n) e).2
-  refusal_is (Refused r) e = (apart (Refused r) e).0
+  refusal_is (Ok n) e = (apart (Ok n) e).2
+  refusal_is (Err r) e = (apart (Err r) e).0
 
   pub number_is : (a : Answer) → x.answer ≡ a → answer ≡ one_number (told_answer a)
-  number_is (Done n) e = let h = (apart (Done n) e).0 in omega arith
-  number_is (Refused r) e =
-      let h = (apart (Refused r) e).0 in
-      let g = (apart (Refused r) e).1 in
+  number_is (Ok n) e = let h = (apart (Ok n) e).0 in omega arith
+  number_is (Err r) e =
+      let h = (apart (Err r) e).0 in
+      let g = (apart (Err r) e).1 in
       omega arith
 
-  laid_is : (n : ℕ) → x.answer ≡ Done n → (take (length file) (file_call c file out).out ≡ written f x.tasks) × (drop (length file) (file_call c file out).out ≡ drop (length file) out)
+  laid_is : (n : ℕ) → x.answer ≡ Ok n → (take (length file) (file_call c file out).out ≡ written f x.tasks) × (drop (length file) (file_call c file out).out ≡ drop (length file) out)
   laid_is n e =
       let w = written f x.tasks in
       rw (call_is, e)
@@ -115,22 +112,22 @@ module _ (f : Frame) (ts : List Task) (g : Good f ts) (c : Call) (out : List ℕ
 
   left_by : (a : Answer) → x.answer ≡ a → file_left c file out ≡ written f x.tasks
   unfolding file_left
-  left_by (Done n) e = rw (refusal_is (Done n) e, (laid_is n e).0)
-  left_by (Refused r) e =
+  left_by (Ok n) e = rw (refusal_is (Ok n) e, (laid_is n e).0)
+  left_by (Err r) e =
       let n = (number_ends r).0 in
-      rw (ne_eqb (refusal_in answer) 0 (λ z. omega (arith, refusal_is (Refused r) e)))
+      rw (ne_eqb (refusal_in answer) 0 (λ z. omega (arith, refusal_is (Err r) e)))
       (sym (ap (written f) (plan_stays (λ z. let m = ap (λ (a : Answer). (told_answer a).number) e in omega arith))))
 
   pub left_is : file_left c file out ≡ written f x.tasks
   left_is = left_by x.answer refl
 
   done_is : (a : Answer) → x.answer ≡ a → refusal_in answer ≡ 0 → (take (length file) (file_call c file out).out ≡ written f x.tasks) × (drop (length file) (file_call c file out).out ≡ drop (length file) out)
-  done_is (Done n) e d = laid_is n e
-  done_is (Refused r) e d = let n = (number_ends r).0 in absurd (omega (arith, refusal_is (Refused r) e))
+  done_is (Ok n) e d = laid_is n e
+  done_is (Err r) e d = let n = (number_ends r).0 in absurd (omega (arith, refusal_is (Err r) e))
 
   none_is : (a : Answer) → x.answer ≡ a → refusal_in answer ≡ 7 → HoldsNone f ts
-  none_is (Done n) e d = absurd (omega (arith, refusal_is (Done n) e))
-  none_is (Refused r) e d = plan_fair.none (e ∙ ap Refused (number_none r (sym (refusal_is (Refused r) e) ∙ d)))
+  none_is (Ok n) e d = absurd (omega (arith, refusal_is (Ok n) e))
+  none_is (Err r) e d = plan_fair.none (e ∙ ap Err (number_none r (sym (refusal_is (Err r) e) ∙ d)))
 
   -- with room, and of a place in the list, it is the call over lists
   pub roomy : placed_in (resource_count f) c ≡ true → length file ≤ length out → x ≡ call_of c f ts
@@ -222,13 +219,13 @@ file_refuses file out c d = found (read_plan file) refl (call_apart c file out)
     found : (r : Read) → read_plan file ≡ r → Apart (file_call c file out).answer (file_outcome c file out) → (f : Frame) × (ts : List Task) × (read_plan file ≡ Read.Plan f ts)
     found (Read.Plan f ts) e a = (f, ts, e)
     found (Read.Refuse r) e a =
-        let h : Apart (file_call c file out).answer (Refused r) = rw e at a in
+        let h : Apart (file_call c file out).answer (Err r) = rw e at a in
         absurd (read_number_lem file r e (sym h.0 ∙ d))
 
 -- ---- "On each refusal, task lists and buffers keep their entry contents."
 out_kept : (f : Frame) (out : List ℕ) (a : Answer) (us : List Task) (n : ℕ) → Apart n a → (refusal_in n ≡ 0 → ⊥) → (answer_file f out a us).out ≡ out
-out_kept f out (Done k) us n p h = absurd (h p.2)
-out_kept f out (Refused e) us n p h = refl
+out_kept f out (Ok k) us n p h = absurd (h p.2)
+out_kept f out (Err e) us n p h = refl
 
 read_kept : (c : Call) (out : List ℕ) (x : Read) (n : ℕ) → Apart n (read_outcome c out x) → (refusal_in n ≡ 0 → ⊥) → (after_read c out x).out ≡ out
 read_kept c out (Read.Plan f ts) n p h = out_kept f out (plan_call c f ts out).answer (plan_call c f ts out).tasks n p h

@@ -3,3 +3,4 @@ pub mod Answers
 pub mod FileTheorems
 pub mod GoesOn
 pub mod FilePasses
+pub mod Numbers

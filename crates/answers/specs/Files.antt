@@ -1,17 +1,15 @@
 -- A call on a plan file in memory: one number, and what the lent output holds then. Refusals come in the order of reading (`read_plan`: 8
 -- and 9 as each record is due, 1 and 2 after the first, 13 for a 65th band, then 3, 4, 13, 5 and 6), then 12 for a place, 10 for an output shorter than the file, then 7.
+use Rattle.std.specs.Prelude.{Ok, Err}
 use Rattle.std.specs.Prelude.{◌≡◌, not, List, [], ◌∷◌, map, ℕ, suc, ◌+◌, ◌*◌, ◌/◌, ◌%◌, ◌^◌, ◌≤◌, eqb, length, get_or, take}
 use Rattle.integers.specs.Lists.{Each}
 use Rattle.integers.specs.Tests.{if}
 use Rattle.plan.specs.declared.Task.{Task}
 use Rattle.plan.specs.declared.Call.{Call}
 use Rattle.plan.specs.declared.Call.TheVariants.{Settle, Within}
-use Rattle.plan.specs.declared.Checked.{Checked}
 use Rattle.plan.specs.declared.Refusal.{Refusal}
 use Rattle.plan.specs.declared.Refusal.TheVariants.{NoSuchResource}
-use Rattle.plan.specs.declared.Answer.{Answer}
-use Rattle.plan.specs.declared.Answer.TheVariants.{Done, Refused}
-use Rattle.plan.specs.Refusals.{number, place, Told}
+use Rattle.plan.specs.Refusals.{number, place, Told, Answer, Checked}
 use Rattle.rules.specs.Frame.{Frame, resource_count}
 use Rattle.rules.specs.Settle.{most_passes}
 use Rattle.rules.specs.Calls.{or_else, refuse_if, Result, unless_refused, placed_in, call_of}
@@ -20,8 +18,8 @@ use Rattle.format.specs.Writing.{written, laid, room_for}
 
 -- include/gristwaltz.h: the refusal number times 2^32 plus the place, or, for number 0, the pass count or the most passes; every place is below 2^32
 abbrev pub answer_number : Answer → ℕ
-answer_number (Done n) = n
-answer_number (Refused f) = number f * 2 ^ 32 + place f % 2 ^ 32
+answer_number (Ok n) = n
+answer_number (Err f) = number f * 2 ^ 32 + place f % 2 ^ 32
 
 -- the same of an answer in the page's number and values
 abbrev pub one_number : Told → ℕ
@@ -36,12 +34,12 @@ file_result n out = record { answer = n; out = out }
 
 -- "On each refusal, task lists and buffers keep their entry contents."
 abbrev pub refused_file : Refusal → List ℕ → FileResult
-refused_file f out = file_result (answer_number (Refused f)) out
+refused_file f out = file_result (answer_number (Err f)) out
 
 -- "the writer writes exactly the file's length"
 abbrev pub answer_file : Frame → List ℕ → Answer → List Task → FileResult
-answer_file f out (Done n) us = file_result n (laid (written f us) out)
-answer_file f out (Refused e) us = refused_file e out
+answer_file f out (Ok n) us = file_result n (laid (written f us) out)
+answer_file f out (Err e) us = refused_file e out
 
 -- 12, then 10, of so many resources, a file of so many bytes and an output of so many
 unfoldable pub lent_due : Call → ℕ → ℕ → ℕ → Checked
@@ -64,7 +62,7 @@ file_call c file out = after_read c out (read_plan file)
 -- what is asked of the tasks of the plan that a file holds, where no output is lent
 abbrev pub read_number : (List Task → ℕ) → Read → ℕ
 read_number asked (Read.Plan f ts) = asked ts
-read_number asked (Read.Refuse e) = answer_number (Refused e)
+read_number asked (Read.Refuse e) = answer_number (Err e)
 
 -- whether a file is a plan that passes the entry checks
 abbrev pub checked : List Task → ℕ

@@ -1,4 +1,5 @@
 -- A range that lies where it would be cut to stays as it is, and so does a task of three such ranges: one whose end is the exact sum.
+use Rattle.std.specs.Prelude.{Ok}
 use mathlib.Core.Path.{◌≡◌, ap, ◌∙◌}
 use mathlib.Core.Bool.{true, false}
 use lib.IntN.{ℤ, ◌+ℤ◌, ◌-ℤ◌}
@@ -7,19 +8,19 @@ use Rattle.integers.specs.Whole.{eq_z, larger, smaller}
 use Rattle.integers.proofs.Tests.{and_first, and_second}
 use Rattle.integers.proofs.Z.{z, +z, -z, maxz, minz, lt_z_out, eq_z_is}
 use Rattle.plan.specs.declared.Span.{Span}
+use Rattle.plan.specs.declared.Day.{Day}
 use Rattle.plan.specs.declared.Task.{Task}
-use Rattle.plan.specs.declared.Narrowed.TheVariants.{Kept}
 use Rattle.plan.specs.Days.{cut_below, cut_above, cut_to, empty_span}
 use Rattle.rules.specs.Balance.{cuts, unless_empty, balanced}
 use Rattle.plan.specs.Tasks.{Bounded}
 use Rattle.balance.specs.Exact.{exact}
 
 -- ---- one range
-record Stays (a b : ℤ) (s : Span) : Type 0 where
+record Stays (a b : ℤ) (s : Span Day) : Type 0 where
   same : cut_to a b s ≡ s
   some : empty_span s ≡ false
 
-stays : (a b : ℤ) (s : Span) → a ≤ℤ s.low.0 → s.low.0 ≤ℤ s.high.0 → s.high.0 ≤ℤ b → Stays a b s
+stays : (a b : ℤ) (s : Span Day) → a ≤ℤ s.low.0 → s.low.0 ≤ℤ s.high.0 → s.high.0 ≤ℤ b → Stays a b s
 unfolding cut_to cut_above cut_below
 stays a b s from rises to =
     let x = s.low.0 in
@@ -29,7 +30,7 @@ stays a b s from rises to =
     record { same = λ i. record { low = record { 0 = l i }; high = record { 0 = m i } }; some = lt_z_out y x rises }
 
 -- ---- one task
-pub exact_stays : (t : Task) → Bounded t → exact t ≡ true → balanced t ≡ Kept t
+pub exact_stays : (t : Task) → Bounded t → exact t ≡ true → balanced t ≡ Ok t
 unfolding exact balanced cuts unless_empty
 exact_stays t f h =
     let a = t.origin.low.0 in
@@ -44,5 +45,5 @@ exact_stays t f h =
     let d = stays (x -ℤ b) (y -ℤ a) t.duration (omega (z, +z a m, -z x b)) f.duration.rises (omega (z, +z b n, -z y a)) in
     let e = stays (a +ℤ m) (b +ℤ n) t.end (omega (z, +z a m)) f.end.rises (omega (z, +z b n)) in
     let same : cuts t ≡ t = λ i. record { set = t.set; origin = o.same i; duration = d.same i; end = e.same i; height = t.height } in
-    let kept : unless_empty t ≡ Kept t = rw (o.some, d.some, e.some) in
+    let kept : unless_empty t ≡ Ok t = rw (o.some, d.some, e.some) in
     ap unless_empty same ∙ kept

@@ -1,3 +1,2 @@
--- How far the check has come, and what the first bands of a list say of all.
+-- How far the check has come.
 pub mod Checks
-pub mod Firsts

@@ -1,2 +1,2 @@
--- What is promised of a list of bands whose first places are held.
+-- The test that one band of a list passes.
 pub mod Checks

@@ -1,42 +1,45 @@
-// "How many passes at most": 1 plus all that could be removed, of rows that hold the tasks of a plan that passed the checks.
+// "How many passes at most": 1 plus all that could be removed, of the tasks of a plan that passed the checks.
 #![tactic(auto)]
 
-ghost use Rattle.std.specs.Prelude.{◌≡◌};
+ghost use Rattle.std.specs.Prelude.{◌≡◌, ◌≤ℤ◌};
+ghost use Rattle.integers.specs.Hull.{range, width};
 ghost use Rattle.plan.specs.Sets.{set_bits};
 ghost use Rattle.plan.specs.Tasks.{TaskFits};
 ghost use Rattle.rules.specs.Settle.{room, most_passes};
-ghost use Rattle.rows.specs.View.{tasks_of};
 ghost use Rattle.bound.specs.Entered.{Entered};
 
-use plan::Task;
-use rows::TaskRow;
+use plan::{Number, Span, Task};
+
+// "high minus low"
+#[tactic(auto, unfolding(integers::specs::Hull::width))]
+fn width<T: Number>(s: Span<T>) -> u64
+    requires { T.number s.low ≤ℤ T.number s.high }
+    ensures { result ≡ width (range (T.number s.low) (T.number s.high)) }
+{
+    s.high.above(s.low)
+}
 
 // "the sum of high minus low over its four ranges, plus its number of resources less one"
+#[tactic(auto, using(crate::proofs::Fits::task_small), unfolding(rules::specs::Settle::room))]
 fn room_of(t: Task) -> u64
     requires { TaskFits set_bits t }
     ensures { result ≡ room t }
 {
-    let origin = t.origin;
-    let duration = t.duration;
-    let end = t.end;
-    let height = t.height;
-    let starts = origin.high.since(origin.low);
-    let lengths = duration.high.since(duration.low);
-    let ends = end.high.since(end.low);
-    let heights = height.high.above(height.low);
-    starts + lengths + ends + heights + (plan::set_size(t.set) - 1)
+    width(t.origin)
+        + width(t.duration)
+        + width(t.end)
+        + width(t.height)
+        + (plan::set_size(t.set) - 1)
 }
 
 // For every task, and 1.
-pub fn most_passes(s: &[TaskRow]) -> u64
-    requires { Entered (tasks_of s.now) }
-    ensures { result ≡ most_passes (tasks_of s.now) }
+pub fn most_passes(tasks: &[Task]) -> u64
+    requires { Entered tasks.now }
+    ensures { result ≡ most_passes tasks.now }
 {
-    let mut most: u64 = 1;
-    let mut i: usize = 0;
-    while i < s.len() {
-        most += room_of(rows::task_at(s, i));
-        i += 1;
+    let mut most = 1;
+    for t in tasks {
+        most += room_of(*t);
     }
     most
 }

@@ -1,2 +1,2 @@
--- For how many tasks the calls on plan files lend rows.
-pub mod Rows
+-- For how many tasks the calls on plan files lend arrays, and what they promise.
+pub mod Lists

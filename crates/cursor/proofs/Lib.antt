@@ -1,2 +1,2 @@
--- Laws of the cursor.
+-- Laws of what stands at a place of the bytes.
 pub mod Due

@@ -1,4 +1,4 @@
--- What the cursor hands out at a place, and what every answer but the record that is due becomes.
+-- What the reader hands out at a place, and what every answer but the record that is due becomes.
 use Rattle.std.specs.Prelude.{List, Bool, ℕ, ◌+◌, ltb, length, drop}
 use Rattle.integers.specs.Tests.{if}
 use Rattle.plan.specs.declared.Refusal.{Refusal}
@@ -6,19 +6,15 @@ use Rattle.plan.specs.declared.Refusal.TheVariants.{WrongMark, CutShort}
 use Rattle.format.specs.declared.Mark.{Mark}
 use Rattle.format.specs.declared.Mark.TheVariants.{PL, RS, RH, LB, TK}
 use Rattle.format.specs.Format.{mark, mark_size, marked, due_in, size, numbers_in, header_from, resource_from, band_from, task_from}
-use Rattle.cursor.specs.declared.Cursor.{Cursor}
 use Rattle.cursor.specs.declared.Record.{Record}
 
-abbrev pub cursor : ℕ → Cursor
-cursor at = record { at = at }
-
--- the record that a mark announces, with the cursor past it
+-- the record that a mark announces, with the place past it
 abbrev pub record_in : Mark → ℕ → List ℕ → Record
-record_in PL at bs = Record.Plan (header_from (numbers_in PL bs)) (cursor (at + size PL))
-record_in RS at bs = Record.Resource (resource_from RS (numbers_in RS bs)) (cursor (at + size RS))
-record_in RH at bs = Record.Resource (resource_from RH (numbers_in RH bs)) (cursor (at + size RH))
-record_in LB at bs = Record.Band (band_from (numbers_in LB bs)) (cursor (at + size LB))
-record_in TK at bs = Record.Task (task_from (numbers_in TK bs)) (cursor (at + size TK))
+record_in PL at bs = Record.Plan (header_from (numbers_in PL bs)) (at + size PL)
+record_in RS at bs = Record.Resource (resource_from RS (numbers_in RS bs)) (at + size RS)
+record_in RH at bs = Record.Resource (resource_from RH (numbers_in RH bs)) (at + size RH)
+record_in LB at bs = Record.Band (band_from (numbers_in LB bs)) (at + size LB)
+record_in TK at bs = Record.Task (task_from (numbers_in TK bs)) (at + size TK)
 
 -- unless it is longer than the rest
 abbrev pub record_of : Mark → ℕ → List ℕ → Record
@@ -38,10 +34,10 @@ record_at file at = handed at (drop at file)
 
 -- the place past a record that is handed out at a place; where no whole one is, the place itself
 abbrev pub past_in : ℕ → Record → ℕ
-past_in at (Record.Plan h c) = c.at
-past_in at (Record.Resource q c) = c.at
-past_in at (Record.Band b c) = c.at
-past_in at (Record.Task t c) = c.at
+past_in at (Record.Plan h past) = past
+past_in at (Record.Resource q past) = past
+past_in at (Record.Band b past) = past
+past_in at (Record.Task t past) = past
 past_in at (Record.CutShort k) = at
 past_in at Record.NoMark = at
 past_in at Record.Ended = at
@@ -61,8 +57,8 @@ stands_for j k = same_mark j (due_in k (mark j))
 abbrev pub not_due : Mark → ℕ → Record → Refusal
 not_due k at Record.Ended = CutShort at
 not_due k at (Record.CutShort j) = if (stands_for j k) (CutShort at) (WrongMark at)
-not_due k at (Record.Plan h c) = WrongMark at
-not_due k at (Record.Resource q c) = WrongMark at
-not_due k at (Record.Band b c) = WrongMark at
-not_due k at (Record.Task t c) = WrongMark at
+not_due k at (Record.Plan h past) = WrongMark at
+not_due k at (Record.Resource q past) = WrongMark at
+not_due k at (Record.Band b past) = WrongMark at
+not_due k at (Record.Task t past) = WrongMark at
 not_due k at Record.NoMark = WrongMark at

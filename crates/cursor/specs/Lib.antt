@@ -1,2 +1,2 @@
--- What the cursor hands out.
+-- What stands at a place of the bytes.
 pub mod Handed

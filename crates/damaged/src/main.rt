@@ -5,27 +5,28 @@
 ghost use Rattle.std.specs.Prelude.{◌≤◌, length};
 ghost use Rattle.plan.specs.Tasks.{most_resources, most_bands, most_tasks};
 
-use format::{ReadAnswer, WriteAnswer};
-use plan::{Refusal, Sense};
-use rows::{BAND_CELLS, BandRow, RESOURCE_CELLS, ResourceRow, TASK_CELLS, TaskRow};
+use format::{Found, table};
+use plan::{
+    Band, Counts, MOST_BANDS, MOST_RESOURCES, MOST_TASKS, NO_BAND, NO_RESOURCE, NO_TASK, Refusal,
+    Resource, Sense, Task,
+};
 use std::io;
 
-fn show_refusal(rt: &impl Print, f: Refusal) -> io::Result<()> {
-    println!(rt; "refused {} {}", f.number(), f.place())
-}
-
-fn sense_byte(sense: Sense) -> u64 {
-    match sense {
-        Sense::AtMost => 0,
-        Sense::AtLeast => 1,
-    }
-}
-
-fn show_answer(rt: &impl Print, answer: ReadAnswer) -> io::Result<()> {
+fn show_answer(rt: &impl Print, answer: Result<Found, Refusal>) -> io::Result<()> {
     match answer {
-        ReadAnswer::Refused(f) => show_refusal(rt, f),
-        ReadAnswer::Plan(sense, n, k, m) => {
-            println!(rt; "plan {} {n} {k} {m}", sense_byte(sense))
+        Err(f) => println!(rt; "{f}"),
+        Ok(
+            Found {
+                sense,
+                resources,
+                bands,
+                tasks,
+            },
+        ) => {
+            println!(rt;
+                "plan {} {resources} {bands} {tasks}",
+                table::sense_number(sense)
+            )
         }
     }
 }
@@ -39,25 +40,29 @@ fn whole() -> [u8; 99] {
     ]
 }
 
-// The first n bytes of a file, for lists of so many places, into rows for the largest plan.
+// The first n bytes of a file, for lists of so many places, into lists for the largest plan.
 fn read_first(
     rt: &impl Print,
     n: usize,
     bytes: &[u8],
-    places: usize,
-    bands: usize,
-    room: usize,
-    q: &mut [ResourceRow],
-    b: &mut [BandRow],
-    s: &mut [TaskRow],
+    places: Counts,
+    resources: &mut [Resource],
+    bands: &mut [Band],
+    tasks: &mut [Task],
 ) -> io::Result<()>
-    requires { (most_resources ≤ length q.old) × (most_bands ≤ length b.old) × (most_tasks ≤ length s.old) }
+    requires { (most_resources ≤ length resources.old) × (most_bands ≤ length bands.old) × (most_tasks ≤ length tasks.old) }
 {
     if n <= bytes.len() {
-        show_answer(
-            rt,
-            file::read_lent(&bytes[..n], places, bands, room, q, b, s),
-        )?;
+        let answer = file::read_lent(
+            &bytes[..n],
+            places.resources,
+            places.bands,
+            places.tasks,
+            resources,
+            bands,
+            tasks,
+        );
+        show_answer(rt, answer)?;
     }
     Ok(())
 }
@@ -66,17 +71,24 @@ fn show_lent(
     rt: &impl Print,
     n: usize,
     bytes: &[u8],
-    places: usize,
+    resources: usize,
     bands: usize,
-    room: usize,
+    tasks: usize,
 ) -> io::Result<()> {
-    let resource = [0i64; RESOURCE_CELLS];
-    let band = [0i64; BAND_CELLS];
-    let task = [0i64; TASK_CELLS];
-    let mut q = [resource; plan::MOST_RESOURCES];
-    let mut b = [band; plan::MOST_BANDS];
-    let mut s = [task; plan::MOST_TASKS];
-    read_first(rt, n, bytes, places, bands, room, &mut q, &mut b, &mut s)
+    let places = Counts {
+        resources,
+        bands,
+        tasks,
+    };
+    read_first(
+        rt,
+        n,
+        bytes,
+        places,
+        &mut [NO_RESOURCE; MOST_RESOURCES],
+        &mut [NO_BAND; MOST_BANDS],
+        &mut [NO_TASK; MOST_TASKS],
+    )
 }
 
 // The same, for lists of three resources and three tasks and of more bands than a plan may have.
@@ -101,46 +113,48 @@ fn changed(rt: &impl Print, at: usize, byte: u8) -> io::Result<()> {
 
 // 9: each record cut short at its first and its last byte, and where the next should start; then a byte left over.
 fn cut_short(rt: &impl Print) -> io::Result<()> {
-    cut(rt, 0)?;
-    cut(rt, 1)?;
-    cut(rt, 5)?;
-    cut(rt, 6)?;
-    cut(rt, 7)?;
-    cut(rt, 15)?;
-    cut(rt, 25)?;
-    cut(rt, 26)?;
-    cut(rt, 27)?;
-    cut(rt, 61)?;
-    cut(rt, 97)?;
-    cut(rt, 99)
+    for n in [0, 1, 5, 6, 7, 15, 25, 26, 27, 61, 97, 99] {
+        cut(rt, n)?;
+    }
+    Ok(())
 }
 
 // 8: marks that are not due, each byte of a mark wrong, a sense above 1; 1, 2 and 9 by the counts.
 fn marks_and_counts(rt: &impl Print) -> io::Result<()> {
-    changed(rt, 0, b'R')?;
-    changed(rt, 1, b'S')?;
-    changed(rt, 2, 2)?;
-    changed(rt, 5, 1)?;
-    changed(rt, 3, 0)?;
-    changed(rt, 3, 17)?;
-    changed(rt, 3, 3)?;
-    changed(rt, 3, 1)?;
-    changed(rt, 4, 1)?;
-    changed(rt, 4, 3)?;
-    changed(rt, 7, b'T')?;
-    changed(rt, 26, b'R')?;
-    changed(rt, 63, b'L')
+    for (at, byte) in [
+        (0, b'R'),
+        (1, b'S'),
+        (2, 2),
+        (5, 1),
+        (3, 0),
+        (3, 17),
+        (3, 3),
+        (3, 1),
+        (4, 1),
+        (4, 3),
+        (7, b'T'),
+        (26, b'R'),
+        (63, b'L'),
+    ] {
+        changed(rt, at, byte)?;
+    }
+    Ok(())
 }
 
 // 3 to 6: an identifier twice, limits outside, ranges crossed and outside, an empty set, a resource that is not there.
 fn contents(rt: &impl Print) -> io::Result<()> {
-    changed(rt, 18, 7)?;
-    changed(rt, 15, 128)?;
-    changed(rt, 25, 1)?;
-    changed(rt, 30, 3)?;
-    changed(rt, 69, 255)?;
-    changed(rt, 64, 0)?;
-    changed(rt, 64, 4)
+    for (at, byte) in [
+        (18, 7),
+        (15, 128),
+        (25, 1),
+        (30, 3),
+        (69, 255),
+        (64, 0),
+        (64, 4),
+    ] {
+        changed(rt, at, byte)?;
+    }
+    Ok(())
 }
 
 // A TK stands where an RS is due, and is cut short too: the mark comes first.
@@ -163,17 +177,6 @@ fn put(g: &mut [u8], at: usize, byte: u8) {
     }
 }
 
-// Bytes put into a file from a place on.
-fn put_part(from: &[u8], g: &mut [u8], at: usize)
-    requires { at ≤ 878 }
-{
-    let mut i: usize = 0;
-    while i < from.len() {
-        put(g, at + i, from[i]);
-        i += 1;
-    }
-}
-
 // An LB record of limit 3, where zeros stand.
 fn put_band(g: &mut [u8], at: usize, place: u8, day: u8)
     requires { at ≤ 878 }
@@ -189,10 +192,8 @@ fn put_band(g: &mut [u8], at: usize, place: u8, day: u8)
 fn put_bands(g: &mut [u8], bands: usize)
     requires { bands ≤ 65 }
 {
-    let mut k: usize = 0;
-    while k < bands {
+    for k in 0..bands {
         put_band(g, 26 + 12 * k, 1, (k + 1) as u8);
-        k += 1;
     }
 }
 
@@ -202,9 +203,10 @@ fn banded(bands: usize) -> [u8; 878]
 {
     let f = whole();
     let mut g = [0u8; 878];
-    put_part(&f[0..26], &mut g, 0);
+    let tasks = 26 + 12 * bands;
+    g[0..26].copy_from_slice(&f[0..26]);
     put_bands(&mut g, bands);
-    put_part(&f[26..98], &mut g, 26 + 12 * bands);
+    g[tasks..tasks + 72].copy_from_slice(&f[26..98]);
     g
 }
 
@@ -230,14 +232,10 @@ fn both_changed(rt: &impl Print, at: usize, byte: u8, also: usize, other: u8) ->
 
 // 9: a band cut short, from its first byte to its last, and the task that is due behind the bands.
 fn bands_cut_short(rt: &impl Print) -> io::Result<()> {
-    cut_banded(rt, 26)?;
-    cut_banded(rt, 27)?;
-    cut_banded(rt, 28)?;
-    cut_banded(rt, 37)?;
-    cut_banded(rt, 38)?;
-    cut_banded(rt, 39)?;
-    cut_banded(rt, 49)?;
-    cut_banded(rt, 50)
+    for n in [26, 27, 28, 37, 38, 39, 49, 50] {
+        cut_banded(rt, n)?;
+    }
+    Ok(())
 }
 
 // 8: an LB before the last RS and one among the tasks, a mark that is nearly LB; 9: an LB behind the tasks.
@@ -253,13 +251,18 @@ fn bands_misplaced(rt: &impl Print) -> io::Result<()> {
 // 13: the second band at an earlier place, on the same day, on an earlier day; the first of no resource, from a day outside, of a limit
 // outside.
 fn bands_outside(rt: &impl Print) -> io::Result<()> {
-    changed_banded(rt, 40, 0)?;
-    changed_banded(rt, 42, 1)?;
-    changed_banded(rt, 42, 0)?;
-    changed_banded(rt, 28, 2)?;
-    changed_banded(rt, 29, 1)?;
-    changed_banded(rt, 32, 2)?;
-    changed_banded(rt, 37, 128)
+    for (at, byte) in [
+        (40, 0),
+        (42, 1),
+        (42, 0),
+        (28, 2),
+        (29, 1),
+        (32, 2),
+        (37, 128),
+    ] {
+        changed_banded(rt, at, byte)?;
+    }
+    Ok(())
 }
 
 // 13 after 4 and before 5: with a limit outside, with a range crossed.
@@ -333,16 +336,13 @@ fn held_misplaced(rt: &impl Print) -> io::Result<()> {
 fn write_first(
     rt: &impl Print,
     n: usize,
-    bands: usize,
-    q: &[ResourceRow],
-    b: &[BandRow],
-    s: &[TaskRow],
+    resources: &[Resource],
+    bands: &[Band],
+    tasks: &[Task],
     out: &mut [u8],
-) -> io::Result<()>
-    requires { (2 ≤ length q.now) × (bands ≤ length b.now) × (2 ≤ length s.now) }
-{
+) -> io::Result<()> {
     if n <= out.len() {
-        let answer = file::write(Sense::AtLeast, &q[..2], &b[..bands], &s[..2], &mut out[..n]);
+        let answer = file::write(Sense::AtLeast, resources, bands, tasks, &mut out[..n]);
         show_written(rt, answer)?;
     }
     Ok(())
@@ -352,15 +352,17 @@ fn write_first(
 fn written(rt: &impl Print, n: usize, bands: usize, f: &[u8], out: &mut [u8]) -> io::Result<()>
     requires { (1 ≤ n) × (bands ≤ most_bands) }
 {
-    let resource = [0i64; RESOURCE_CELLS];
-    let band = [0i64; BAND_CELLS];
-    let task = [0i64; TASK_CELLS];
-    let mut q = [resource; plan::MOST_RESOURCES];
-    let mut b = [band; plan::MOST_BANDS];
-    let mut s = [task; plan::MOST_TASKS];
-    read_first(rt, n, f, 2, bands, 2, &mut q, &mut b, &mut s)?;
-    write_first(rt, n - 1, bands, &q, &b, &s, out)?;
-    write_first(rt, n, bands, &q, &b, &s, out)?;
+    let mut q = [NO_RESOURCE; MOST_RESOURCES];
+    let mut b = [NO_BAND; MOST_BANDS];
+    let mut s = [NO_TASK; MOST_TASKS];
+    let places = Counts {
+        resources: 2,
+        bands,
+        tasks: 2,
+    };
+    read_first(rt, n, f, places, &mut q, &mut b, &mut s)?;
+    write_first(rt, n - 1, &q[..2], &b[..bands], &s[..2], out)?;
+    write_first(rt, n, &q[..2], &b[..bands], &s[..2], out)?;
     if *out == *f {
         println!(rt; "same")?;
     }
@@ -378,10 +380,10 @@ fn written_again(rt: &impl Print) -> io::Result<()> {
     written(rt, 98, 0, &h, &mut out)
 }
 
-fn show_written(rt: &impl Print, answer: WriteAnswer) -> io::Result<()> {
+fn show_written(rt: &impl Print, answer: Result<usize, Refusal>) -> io::Result<()> {
     match answer {
-        WriteAnswer::Refused(f) => show_refusal(rt, f),
-        WriteAnswer::Written(n) => println!(rt; "written {n}"),
+        Err(f) => println!(rt; "{f}"),
+        Ok(n) => println!(rt; "written {n}"),
     }
 }
 

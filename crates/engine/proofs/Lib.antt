@@ -1,2 +1,2 @@
--- Rows ready at least, and a call by its answer.
+-- What a step answers, and a call on a plan as it is for its sense.
 pub mod Calls

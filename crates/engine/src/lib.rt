@@ -1,100 +1,75 @@
-// Every call on the core's rows: checking, balance, one resource's step, a pass, settling, how many passes that makes at most. The steps work at
+// Every call on a plan's lists: checking, balance, one resource's step, a pass, settling, how many passes that makes at most. The steps work at
 // least: a plan at most is negated on entry, and back on success.
 #![tactic(auto)]
 
-ghost use Rattle.std.specs.Prelude.{◌≡◌, true, length};
+ghost use Rattle.std.specs.Prelude.{◌≡◌, true, length, IfOk};
+ghost use Rattle.plan.specs.declared.Sense.TheVariants.{AtLeast};
+ghost use Rattle.rules.specs.Frame.{framed};
 ghost use Rattle.rules.specs.Calls.{placed_in};
-ghost use Rattle.rows.specs.View.{frame_of, at_least};
-ghost use Rattle.passes.specs.Ready.{Ready, AnsweredRows};
-ghost use Rattle.engine.specs.Calls.{left_if, Restored};
+ghost use Rattle.step.specs.Kept.{Kept};
+ghost use Rattle.passes.specs.Ready.{Ready, Answered};
 
-use plan::{Answer, Call, Refusal, Sense};
-use rows::{BandRow, ResourceRow, TaskRow};
-use stretches::StretchRow;
+use plan::{Band, Call, Refusal, Resource, Sense, Task};
+use profile::Work;
 
 // "a resource step names a place not in the list"
 pub fn is_placed(c: Call, resources: usize) -> bool
     ensures { result ≡ placed_in resources c }
 {
     match c {
-        Call::Step(p) => p < resources,
-        Call::Check => true,
-        Call::Balance => true,
-        Call::Pass => true,
-        Call::Settle => true,
-        Call::Within(_) => true,
-        Call::MostPasses => true,
+        Call::Step(place) => place < resources,
+        _ => true,
     }
 }
 
 // More passes than settling any plan makes: at most some 617 million.
 pub const ENOUGH_PASSES: u64 = 1 << 32;
 
-// A step or a pass makes no passes to report.
-fn left_if(ok: bool) -> Answer
-    ensures { result ≡ left_if ok }
-{
-    if ok {
-        Answer::Done(0)
-    } else {
-        Answer::Refused(Refusal::NoPlan)
-    }
-}
-
-// What is asked for, at least, on rows that passed the checks.
+// What is asked for, at least, on a plan that passed the checks.
 fn apply_at_least(
     c: Call,
-    q: &[ResourceRow],
-    b: &[BandRow],
-    s: &mut [TaskRow],
-    keys: &mut [u64],
-    spare: &mut [u64],
-    ss: &mut [StretchRow],
-) -> Answer
-    requires { (placed_in (length q.now) c ≡ true) × Ready q.now b.now s.old keys.old spare.old ss.old }
-    ensures { AnsweredRows c (at_least q.now b.now) s.old result s.new }
+    resources: &[Resource],
+    bands: &[Band],
+    tasks: &mut [Task],
+    work: &mut Work,
+) -> Result<u64, Refusal>
+    requires { (placed_in (length resources.now) c ≡ true) × Ready resources.now bands.now tasks.old work.old }
+    ensures answered { Answered c (framed AtLeast resources.now bands.now) tasks.old result tasks.new }
+    ensures kept { Kept work.old work.new }
 {
     match c {
-        Call::Check => Answer::Done(0),
-        Call::Balance => {
-            let o = balance::balance(s);
-            left_if(o.ok)
+        Call::Check => Ok(0),
+        Call::Balance => balance::balance(tasks).map(|_| 0).ok_or(Refusal::NoPlan),
+        Call::Step(place) => {
+            passes::resource_step(resources, bands, tasks, place, idle::no_steps(), work)
+                .map(|_| 0)
+                .ok_or(Refusal::NoPlan)
         }
-        Call::Step(p) => {
-            let o = passes::resource_step(q, b, s, p, idle::no_steps(), keys, spare, ss);
-            left_if(o.ok)
-        }
-        Call::Pass => {
-            let o = passes::pass_rows(q, b, s, idle::EVERY_PLACE, keys, spare, ss);
-            left_if(o.ok)
-        }
-        Call::Settle => passes::settle_rows(ENOUGH_PASSES, q, b, s, keys, spare, ss),
-        Call::Within(most) => passes::settle_rows(most, q, b, s, keys, spare, ss),
-        Call::MostPasses => Answer::Done(bound::most_passes(s)),
+        Call::Pass => passes::pass(resources, bands, tasks, idle::EVERY_PLACE, work)
+            .map(|_| 0)
+            .ok_or(Refusal::NoPlan),
+        Call::Settle => passes::settle(ENOUGH_PASSES, resources, bands, tasks, work),
+        Call::Within(most) => passes::settle(most, resources, bands, tasks, work),
+        Call::MostPasses => Ok(bound::most_passes(tasks)),
     }
 }
 
-// A call on rows that passed the checks, in what is lent.
+// A call on a plan that passed the checks, in what is lent.
 pub fn apply(
     c: Call,
     sense: Sense,
-    q: &mut [ResourceRow],
-    b: &mut [BandRow],
-    s: &mut [TaskRow],
-    keys: &mut [u64],
-    spare: &mut [u64],
-    ss: &mut [StretchRow],
-) -> Answer
-    requires { (placed_in (length q.old) c ≡ true) × Ready q.old b.old s.old keys.old spare.old ss.old }
-    ensures result { AnsweredRows c (frame_of sense q.old b.old) s.old result s.new }
-    ensures restored { Restored result q.old q.new b.old b.new }
+    resources: &mut [Resource],
+    bands: &mut [Band],
+    tasks: &mut [Task],
+    work: &mut Work,
+) -> Result<u64, Refusal>
+    requires { (placed_in (length resources.old) c ≡ true) × Ready resources.old bands.old tasks.old work.old }
+    ensures answered { Answered c (framed sense resources.old bands.old) tasks.old result tasks.new }
+    ensures restored { IfOk result (λ n. (resources.new ≡ resources.old) × (bands.new ≡ bands.old)) }
+    ensures kept { Kept work.old work.new }
 {
-    negation::negate_for(sense, q, b, s);
-    match apply_at_least(c, q, b, s, keys, spare, ss) {
-        Answer::Refused(f) => Answer::Refused(f),
-        Answer::Done(n) => {
-            negation::negate_for(sense, q, b, s);
-            Answer::Done(n)
-        }
-    }
+    negation::negate_for(sense, resources, bands, tasks);
+    let n = apply_at_least(c, resources, bands, tasks, work)?;
+    negation::negate_for(sense, resources, bands, tasks);
+    Ok(n)
 }

@@ -1,57 +1,74 @@
 -- Each check from place k on: what is left to look at gives the answer, one law where the place passes and one where it does not.
 use mathlib.Core.Path.{◌≡◌, refl}
-use mathlib.Core.Bool.{Bool, true, false, not}
-use mathlib.Core.List.{List, []}
-use Prim.Native.Nat.{ℕ, zero, suc, ◌+◌, ◌-◌, ◌≤◌, ◌<◌}
+use mathlib.Core.Bool.{Bool, true, false, not, ◌||◌}
+use mathlib.Core.List.{List, [], ◌∷◌}
+use Prim.Native.Nat.{ℕ, zero, suc, ◌+◌, ◌≤◌, ◌<◌}
 use native.Mathlib.Omega.{arith}
 use native.Mathlib.Numerals.{add-one}
 use lib.IntN.{ℤ}
-use lib.ListN.{length, drop, get_or, drop_of_length-le}
+use lib.ListN.{length, drop, take, get_or, drop_of_length-le}
 use lib.Seq.{drop-cons}
+use Rattle.std.proofs.lemmas.List.Folds.{list_any_more}
 use Rattle.integers.specs.Tests.{or, any}
+use Rattle.integers.specs.Whole.{eq_z}
 use Rattle.plan.specs.declared.Task.{Task}
 use Rattle.plan.specs.declared.Resource.{Resource}
 use Rattle.plan.specs.declared.Refusal.TheVariants.{RepeatedIdentifier, LimitOutside, RangeOutside, SetOutside}
 use Rattle.integers.specs.Hull.{within}
 use Rattle.plan.specs.Powers.{power_ends}
-use Rattle.plan.specs.declared.Checked.{Checked}
+use Rattle.plan.specs.Refusals.{Checked, accepted}
 use Rattle.rules.specs.Calls.{or_else, refuse_if, repeats, limits, ranges_fit, set_fits, tasks_fit}
-use Rattle.plan.specs.declared.Checked.TheVariants.{Accepted, Refused}
+use Rattle.std.proofs.Common.{Err}
 use Rattle.plan.specs.Tasks.{no_task, no_resource}
-use Rattle.entry.specs.Checks.{seen, repeats_at}
+use Rattle.entry.specs.Checks.{is_among}
 
 -- ---- identifiers
--- the earlier ones, looked at from the latest back
-pub seen_back : (p : ℤ → Bool) (qs : List Resource) (j : ℕ) → 0 < j → any p (seen j qs) ≡ or (p (get_or qs (j - 1) no_resource).id) (any p (seen (j - 1) qs))
-unfolding seen any
-seen_back p qs zero h = absurd (omega arith)
-seen_back p qs (suc j) h = let e : suc j - 1 ≡ j = omega arith in rw e
+-- the identifiers of the first k resources, the latest first
+unfoldable pub seen : ℕ → List Resource → List ℤ
+seen zero qs = []
+seen (suc k) qs = (get_or qs k no_resource).id ∷ seen k qs
 
-pub seen_none : (p : ℤ → Bool) (qs : List Resource) → any p (seen 0 qs) ≡ false
+either : (a b : Bool) → or a b ≡ (b || a)
+either true true = refl
+either true false = refl
+either false true = refl
+either false false = refl
+
+seen_any : (x : ℤ) (qs : List Resource) (k : ℕ) → k ≤ length qs → any (eq_z x) (seen k qs) ≡ is_among x (take k qs)
 unfolding seen any
-seen_none p qs = refl
+seen_any x qs zero h = refl
+seen_any x qs (suc k) h =
+    let i = seen_any x qs k (omega arith) in
+    let e = rw add-one at (list_any_more (λ q. eq_z x q.id) qs k no_resource h) in
+    rw (i, e) (either (eq_z x (get_or qs k no_resource).id) (is_among x (take k qs)))
 
 module _ (qs : List Resource) where
   unfoldable pub repeats_from : ℕ → Checked
   repeats_from k = repeats k (seen k qs) (drop k qs)
 
+  -- the identifier at k is one of those before it
+  abbrev pub among_earlier : ℕ → Bool
+  among_earlier k = is_among (get_or qs k no_resource).id (take k qs)
+
   pub repeats_start : repeats_from 0 ≡ repeats 0 [] qs
   unfolding repeats_from seen
   repeats_start = refl
 
-  repeats_at_lem : (k : ℕ) → k < length qs → repeats_from k ≡ or_else (refuse_if (repeats_at qs k) (RepeatedIdentifier k)) (repeats_from (suc k))
+  repeats_at_lem : (k : ℕ) → k < length qs → repeats_from k ≡ or_else (refuse_if (among_earlier k) (RepeatedIdentifier k)) (repeats_from (suc k))
   unfolding repeats_from seen repeats
-  repeats_at_lem k h = rw (drop-cons qs k no_resource h)
+  repeats_at_lem k h = rw (drop-cons qs k no_resource h, seen_any (get_or qs k no_resource).id qs k (omega arith))
 
-  pub repeats_past : (k : ℕ) → k < length qs → repeats_at qs k ≡ false → repeats_from (k + 1) ≡ repeats_from k
+  pub repeats_past : (k : ℕ) → k < length qs → among_earlier k ≡ false → repeats_from (k + 1) ≡ repeats_from k
   repeats_past k h e = rw (add-one, repeats_at_lem k h, e)
 
-  pub repeats_here : (k : ℕ) → k < length qs → repeats_at qs k ≡ true → repeats_from k ≡ Refused (RepeatedIdentifier k)
+  pub repeats_here : (k : ℕ) → k < length qs → among_earlier k ≡ true → repeats_from k ≡ Err (RepeatedIdentifier k)
   repeats_here k h e = rw (repeats_at_lem k h, e)
 
-  pub repeats_end : (k : ℕ) → length qs ≤ k → repeats_from k ≡ Accepted
+  pub repeats_end : (k : ℕ) → length qs ≤ k → repeats_from k ≡ accepted
   unfolding repeats_from repeats
   repeats_end k h = rw (drop_of_length-le qs {i = k} h)
+
+pub ruleset repeats_steps = (repeats_start, repeats_past, repeats_here, repeats_end)
 
 -- ---- limits
 module _ (qs : List Resource) where
@@ -69,12 +86,14 @@ module _ (qs : List Resource) where
   pub limits_past : (k : ℕ) → k < length qs → within power_ends (get_or qs k no_resource).limit.0 ≡ true → limits_from (k + 1) ≡ limits_from k
   limits_past k h e = rw (add-one, limits_at k h, e)
 
-  pub limits_here : (k : ℕ) → k < length qs → within power_ends (get_or qs k no_resource).limit.0 ≡ false → limits_from k ≡ Refused (LimitOutside k)
+  pub limits_here : (k : ℕ) → k < length qs → within power_ends (get_or qs k no_resource).limit.0 ≡ false → limits_from k ≡ Err (LimitOutside k)
   limits_here k h e = rw (limits_at k h, e)
 
-  pub limits_end : (k : ℕ) → length qs ≤ k → limits_from k ≡ Accepted
+  pub limits_end : (k : ℕ) → length qs ≤ k → limits_from k ≡ accepted
   unfolding limits_from limits
   limits_end k h = rw (drop_of_length-le qs {i = k} h)
+
+pub ruleset limits_steps = (limits_start, limits_past, limits_here, limits_end)
 
 -- ---- tasks
 module _ (n : ℕ) (ts : List Task) where
@@ -92,12 +111,14 @@ module _ (n : ℕ) (ts : List Task) where
   pub tasks_past : (k : ℕ) → k < length ts → ranges_fit (get_or ts k no_task) ≡ true → set_fits n (get_or ts k no_task) ≡ true → tasks_from (k + 1) ≡ tasks_from k
   tasks_past k h e f = rw (add-one, tasks_at k h, e, f)
 
-  pub range_here : (k : ℕ) → k < length ts → ranges_fit (get_or ts k no_task) ≡ false → tasks_from k ≡ Refused (RangeOutside k)
+  pub range_here : (k : ℕ) → k < length ts → ranges_fit (get_or ts k no_task) ≡ false → tasks_from k ≡ Err (RangeOutside k)
   range_here k h e = rw (tasks_at k h, e)
 
-  pub set_here : (k : ℕ) → k < length ts → ranges_fit (get_or ts k no_task) ≡ true → set_fits n (get_or ts k no_task) ≡ false → tasks_from k ≡ Refused (SetOutside k)
+  pub set_here : (k : ℕ) → k < length ts → ranges_fit (get_or ts k no_task) ≡ true → set_fits n (get_or ts k no_task) ≡ false → tasks_from k ≡ Err (SetOutside k)
   set_here k h e f = rw (tasks_at k h, e, f)
 
-  pub tasks_end : (k : ℕ) → length ts ≤ k → tasks_from k ≡ Accepted
+  pub tasks_end : (k : ℕ) → length ts ≤ k → tasks_from k ≡ accepted
   unfolding tasks_from tasks_fit
   tasks_end k h = rw (drop_of_length-le ts {i = k} h)
+
+pub ruleset tasks_steps = (tasks_start, tasks_past, range_here, set_here, tasks_end)

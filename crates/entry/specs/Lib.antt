@@ -1,2 +1,2 @@
--- The entry checks as code answers them.
+-- What the checks ask of identifiers.
 pub mod Checks

@@ -2,53 +2,59 @@
 // day on, packed into one key that rises with the day; and the extremes of those tasks. Cost: one run over the tasks.
 #![tactic(auto)]
 
-ghost use Rattle.std.specs.Prelude.{◌≡◌, ◌+◌, ◌*◌, ◌≤◌, ◌<◌, pos, neg_ℤ, ◌+ℤ◌, ◌-ℤ◌, nat_abs, length, get_or, ◌≤ℤ◌};
-ghost use Rattle.std.specs.Int.Signed.{lt_z};
+ghost use Rattle.std.specs.Prelude.{◌≡◌, ◌+◌, ◌*◌, ◌≤◌, ◌<◌, pos, neg_ℤ, ◌+ℤ◌, length, ℤ};
 ghost use Rattle.std.specs.Int.{w64};
 ghost use Rattle.std.proofs.Common.{SFits};
 ghost use Rattle.integers.specs.Lists.{Each};
-ghost use Rattle.plan.specs.Sets.{set_bits, only};
-ghost use Rattle.plan.specs.Tasks.{no_task, most_tasks, Bounded};
-ghost use Rattle.rows.specs.View.{tasks_of};
+ghost use Rattle.plan.specs.Sets.{set_bits};
+ghost use Rattle.plan.specs.Tasks.{most_tasks, Bounded};
 ghost use Rattle.events.specs.Keys.{count, day_of, power_of, sure_of, key_of, EventFits};
 ghost use Rattle.events.specs.Laid.{Laid};
 ghost use Rattle.events.specs.Events.{events_a_task, ChangeFits, change, change_keys, hopeful, surely, fixed, task_keys, events_of, keys_of};
 ghost use Rattle.events.specs.Extremes.{with_task, joined, extremes_of, no_extremes};
 
-use plan::{Day, Power, Task};
-use rows::TaskRow;
+use plan::{Day, Number, Power, Task};
+use std::ops::{Add, Neg};
 
 // How many things make a day count, sure tasks or a held resource's span, or a change of that number.
-#[derive(Clone, Copy)]
+#[derive(Clone, Copy, PartialEq, Eq, PartialOrd, Ord)]
 pub struct Count(pub i64);
 
-impl Count {
-    fn negated(self) -> Count
-        requires { SFits w64 (neg_ℤ self.0) }
-        ensures { result ≡ count (neg_ℤ self.0) }
-    {
-        Count(integers::negated(self.0))
-    }
+impl Add for Count {
+    type Output = Count;
 
-    pub fn plus(self, o: Count) -> Count
-        requires { SFits w64 (self.0 +ℤ o.0) }
-        ensures { result ≡ count (self.0 +ℤ o.0) }
-    {
+    ghost can_add = { λ a b. SFits w64 (a.0 +ℤ b.0) };
+
+    ghost add_gives = { λ a b r. r ≡ count (a.0 +ℤ b.0) };
+
+    fn add(self, o: Count) -> Count {
         Count(self.0 + o.0)
     }
+}
 
-    pub fn some(self) -> bool
-        ensures { result ≡ lt_z (pos 0) self.0 }
-    {
-        0 < self.0
+impl Neg for Count {
+    type Output = Count;
+
+    ghost can_neg = { λ a. SFits w64 (neg_ℤ a.0) };
+
+    ghost neg_gives = { λ a r. r ≡ count (neg_ℤ a.0) };
+
+    fn neg(self) -> Count {
+        Count(-self.0)
+    }
+}
+
+impl Number for Count {
+    ghost number = { λ u. u.0 };
+
+    ghost numbered = { count };
+
+    fn number(self) -> i64 {
+        self.0
     }
 
-    // How many above the least: a count as a number that is not below 0.
-    fn above(self, least: Count) -> u64
-        requires { SFits w64 (self.0 -ℤ least.0) × (least.0 ≤ℤ self.0) }
-        ensures { result ≡ nat_abs (self.0 -ℤ least.0) }
-    {
-        integers::above(self.0, least.0)
+    fn numbered(x: i64) -> Count {
+        Count(x)
     }
 }
 
@@ -68,29 +74,33 @@ const POWER_FIELD: u64 = 1 << 22;
 
 const DAY_PLACE: u64 = POWER_FIELD * COUNT_FIELD;
 
+#[tactic(auto, unfolding(crate::specs::Keys::key_of))]
 pub fn key_of(d: Day, p: Power, u: Count) -> u64
     requires { EventFits d.0 p.0 u.0 }
     ensures { result ≡ key_of d.0 p.0 u.0 }
 {
-    d.since(Day::LOW) * DAY_PLACE + p.above(LEAST_CHANGE) * COUNT_FIELD + u.above(LEAST_COUNT)
+    d.above(Day::LOW) * DAY_PLACE + p.above(LEAST_CHANGE) * COUNT_FIELD + u.above(LEAST_COUNT)
 }
 
+#[tactic(auto, using(crate::proofs::Keys::read_is), unfolding(crate::specs::Keys::day_of))]
 pub fn day_of(k: u64) -> Day
     ensures { result.0 ≡ day_of k }
 {
-    Day::LOW.plus(Day((k / DAY_PLACE) as i64))
+    Day::LOW + Day((k / DAY_PLACE) as i64)
 }
 
+#[tactic(auto, using(crate::proofs::Keys::read_is), unfolding(crate::specs::Keys::power_of))]
 pub fn power_of(k: u64) -> Power
     ensures { result.0 ≡ power_of k }
 {
-    LEAST_CHANGE.plus(Power((k % DAY_PLACE / COUNT_FIELD) as i64))
+    LEAST_CHANGE + Power((k % DAY_PLACE / COUNT_FIELD) as i64)
 }
 
+#[tactic(auto, using(crate::proofs::Keys::read_is), unfolding(crate::specs::Keys::sure_of))]
 pub fn sure_of(k: u64) -> Count
     ensures { result.0 ≡ sure_of k }
 {
-    LEAST_COUNT.plus(Count((k % COUNT_FIELD) as i64))
+    LEAST_COUNT + Count((k % COUNT_FIELD) as i64)
 }
 
 // ---- events
@@ -108,62 +118,47 @@ pub struct Change {
 pub const EVENTS_A_TASK: usize = 4;
 
 // an event and its opposite, behind the first n
+#[tactic(auto, using(crate::proofs::Laid::laid_two), unfolding(crate::specs::Events::change_keys))]
 pub fn put_change(keys: &mut [u64], n: usize, e: Change) -> usize
     requires enough { n + 2 ≤ length keys.old }
     requires change_fits { ChangeFits e }
     ensures { Laid keys.old keys.new n result (change_keys e) }
 {
-    let power = e.power;
-    let sure = e.sure;
-    let a = key_of(e.from, power, sure);
-    let b = key_of(e.to, power.negated(), sure.negated());
-    keys[n] = a;
-    keys[n + 1] = b;
+    keys[n] = key_of(e.from, e.power, e.sure);
+    keys[n + 1] = key_of(e.to, -e.power, -e.sure);
     n + 2
 }
 
+#[tactic(auto, unfolding(crate::specs::Events::hopeful))]
 fn is_hopeful(t: Task) -> bool
     ensures { result ≡ hopeful t }
 {
-    let low = t.origin.low;
-    Power(0).below(t.height.high) && low.before(t.end.high)
+    Power(0) < t.height.high && t.origin.low < t.end.high
 }
 
-// whether the task can stand nowhere else
-fn is_only_on(t: Task, r: u64) -> bool
-    requires { r < set_bits }
-    ensures { result ≡ only t.set r }
-{
-    plan::only_resource(t.set, r)
-}
-
+#[tactic(auto, unfolding(crate::specs::Events::surely))]
 fn is_surely(t: Task, r: u64) -> bool
     requires { r < set_bits }
     ensures { result ≡ surely r t }
 {
-    let high = t.origin.high;
-    is_only_on(t, r) && high.before(t.end.low)
+    plan::only_resource(t.set, r) && t.origin.high < t.end.low
 }
 
+#[tactic(auto, unfolding(crate::specs::Events::fixed))]
 fn is_fixed(t: Task) -> bool
     ensures { result ≡ fixed t }
 {
-    let start = t.origin.high;
-    let stop = t.end.high;
-    start.not_after(t.origin.low) && stop.not_after(t.end.low)
+    t.origin.high <= t.origin.low && t.end.high <= t.end.low
 }
 
 // the hope from origin low to end high, with u sure tasks
 fn hope_over(t: Task, u: Count) -> Change
     ensures { result ≡ change t.origin.low.0 t.end.high.0 t.height.high.0 u.0 }
 {
-    let from = t.origin.low;
-    let to = t.end.high;
-    let power = t.height.high;
     Change {
-        from,
-        to,
-        power,
+        from: t.origin.low,
+        to: t.end.high,
+        power: t.height.high,
         sure: u,
     }
 }
@@ -172,11 +167,9 @@ fn hope_over(t: Task, u: Count) -> Change
 fn sure_over(t: Task, p: Power) -> Change
     ensures { result ≡ change t.origin.high.0 t.end.low.0 p.0 (pos 1) }
 {
-    let from = t.origin.high;
-    let to = t.end.low;
     Change {
-        from,
-        to,
+        from: t.origin.high,
+        to: t.end.low,
         power: p,
         sure: Count(1),
     }
@@ -188,20 +181,16 @@ fn put_events(keys: &mut [u64], n: usize, t: Task, r: u64) -> usize
     requires bounded { Bounded t }
     ensures { Laid keys.old keys.new n result (task_keys r t) }
 {
-    if is_hopeful(t) {
-        if is_surely(t, r) {
-            if is_fixed(t) {
-                return put_change(keys, n, hope_over(t, Count(1)));
-            }
+    match (is_hopeful(t), is_surely(t, r)) {
+        (true, true) if is_fixed(t) => put_change(keys, n, hope_over(t, Count(1))),
+        (true, true) => {
             let m = put_change(keys, n, hope_over(t, Count(0)));
-            return put_change(keys, m, sure_over(t, Power(0)));
+            put_change(keys, m, sure_over(t, Power(0)))
         }
-        return put_change(keys, n, hope_over(t, Count(0)));
+        (true, false) => put_change(keys, n, hope_over(t, Count(0))),
+        (false, true) => put_change(keys, n, sure_over(t, t.height.high)),
+        (false, false) => n,
     }
-    if is_surely(t, r) {
-        return put_change(keys, n, sure_over(t, t.height.high));
-    }
-    n
 }
 
 // ---- extremes
@@ -215,19 +204,16 @@ pub struct Extremes {
     pub lift: Power,
 }
 
+#[tactic(auto, unfolding(crate::specs::Extremes::with_task))]
 fn with_task(e: Extremes, t: Task) -> Extremes
     requires { Bounded t }
     ensures { result ≡ with_task e t }
 {
-    let low = e.low;
-    let high = e.high;
-    let bar = e.bar;
-    let lift = e.lift;
     Extremes {
-        low: low.smaller(t.origin.low),
-        high: high.larger(t.end.high),
-        bar: bar.larger(stretches::bar_of(t)),
-        lift: lift.larger(stretches::lift_of(t)),
+        low: e.low.min(t.origin.low),
+        high: e.high.max(t.end.high),
+        bar: e.bar.max(stretches::bar_of(t)),
+        lift: e.lift.max(stretches::lift_of(t)),
     }
 }
 
@@ -252,40 +238,37 @@ pub struct Collected {
     pub extremes: Extremes,
 }
 
-// the events of task i, where it has r in its set, behind those of the tasks before it
-fn collect_task(s: &[TaskRow], i: usize, r: u64, keys: &mut [u64], c: Collected) -> Collected
-    requires enough { (i < length s.now) × (r < set_bits) × (c.events + events_a_task ≤ length keys.old) }
-    requires bounded { Bounded (get_or (tasks_of s.now) i no_task) }
-    ensures laid { Laid keys.old keys.new c.events result.events (events_of r (get_or (tasks_of s.now) i no_task)) }
-    ensures extremes_value { result.extremes ≡ joined r c.extremes (get_or (tasks_of s.now) i no_task) }
+// the events of a task, where it has r in its set, behind those of the tasks before it
+#[tactic(auto, using(crate::proofs::Laid::laid_none), unfolding(crate::specs::Events::events_of, crate::specs::Extremes::joined))]
+fn collect_task(t: Task, r: u64, keys: &mut [u64], c: Collected) -> Collected
+    requires enough { (r < set_bits) × (c.events + events_a_task ≤ length keys.old) }
+    requires bounded { Bounded t }
+    ensures laid { Laid keys.old keys.new c.events result.events (events_of r t) }
+    ensures extremes_value { result.extremes ≡ joined r c.extremes t }
 {
-    let t = rows::task_at(s, i);
-    if plan::has_resource(t.set, r) {
-        let n = put_events(keys, c.events, t, r);
-        return Collected {
-            events: n,
-            extremes: with_task(c.extremes, t),
-        };
+    if !plan::has_resource(t.set, r) {
+        return c;
     }
-    c
+    Collected {
+        events: put_events(keys, c.events, t, r),
+        extremes: with_task(c.extremes, t),
+    }
 }
 
 // the events of every task that has r in its set
-pub fn collect(s: &[TaskRow], r: u64, keys: &mut [u64]) -> Collected
-    requires enough { (r < set_bits) × (length s.now ≤ most_tasks) × (events_a_task * length s.now ≤ length keys.old) }
-    requires each { Each Bounded (tasks_of s.now) }
-    ensures laid { Laid keys.old keys.new 0 result.events (keys_of r (tasks_of s.now)) }
-    ensures extremes_value { result.extremes ≡ extremes_of r no_extremes (tasks_of s.now) }
-    ensures events_bound { result.events ≤ events_a_task * length s.now }
+pub fn collect(tasks: &[Task], r: u64, keys: &mut [u64]) -> Collected
+    requires enough { (r < set_bits) × (length tasks.now ≤ most_tasks) × (events_a_task * length tasks.now ≤ length keys.old) }
+    requires each { Each Bounded tasks.now }
+    ensures laid { Laid keys.old keys.new 0 result.events (keys_of r tasks.now) }
+    ensures extremes_value { result.extremes ≡ extremes_of r no_extremes tasks.now }
+    ensures events_bound { result.events ≤ events_a_task * length tasks.now }
 {
     let mut c = Collected {
         events: 0,
         extremes: no_extremes(),
     };
-    let mut i: usize = 0;
-    while i < s.len() {
-        c = collect_task(s, i, r, keys, c);
-        i += 1;
+    for t in tasks {
+        c = collect_task(*t, r, keys, c);
     }
     c
 }

@@ -1,5 +1,6 @@
 -- Laws of a run of bands, which is read by its marks: an accepted run is so many due records, no more than there is room for and than a
 -- plan may have; the bands of an accepted plan are such a run; and only how many there are decides whether a list has room.
+use Rattle.plan.specs.Refusals.{accepted}
 use mathlib.Core.Path.{◌≡◌, refl}
 use mathlib.Core.Bool.{false, not}
 use mathlib.Core.List.{List, [], ◌∷◌, ◌++◌, append_assoc}
@@ -14,7 +15,6 @@ use Rattle.integers.specs.Lists.Each.{nothing, also}
 use Rattle.integers.proofs.Tests.{by_cases}
 use Rattle.plan.specs.declared.Task.{Task}
 use Rattle.plan.specs.declared.Band.{Band}
-use Rattle.plan.specs.declared.Checked.TheVariants.{Accepted}
 use Rattle.plan.specs.declared.Refusal.TheVariants.{CutShort, ListShort, BandOutside}
 use Rattle.plan.specs.Tasks.{most_bands}
 use Rattle.rules.specs.Calls.{or_else, refuse_if}
@@ -33,7 +33,7 @@ pub record Taken (room k : ℕ) (bs : List ℕ) : Type 0 where
   pub few : k < most_bands
   pub held : k < room
 
-pub taken_is : (room k at : ℕ) (bs : List ℕ) → band_due room k at bs ≡ Accepted → Taken room k bs
+pub taken_is : (room k at : ℕ) (bs : List ℕ) → band_due room k at bs ≡ accepted → Taken room k bs
 unfolding band_due
 taken_is room k at bs h =
     let short = ltb (length bs) (size LB) in
@@ -47,18 +47,18 @@ taken_is room k at bs h =
       held = ltb-true k room (not-false (ltb k room) (unrefused none ListShort b.1));
     }
 
-pub taken_in : (room k at : ℕ) (bs : List ℕ) → Taken room k bs → band_due room k at bs ≡ Accepted
+pub taken_in : (room k at : ℕ) (bs : List ℕ) → Taken room k bs → band_due room k at bs ≡ accepted
 unfolding band_due
 taken_in room k at bs t = simp (le-ltb (length bs) (size LB) t.whole, lt-ltb k most_bands t.few, lt-ltb k room t.held)
 
 -- ---- an accepted run
 -- what it says: so many due records, which with the k before them are no more than a plan may have and than there is room for
 pub record RunIs (most room k at : ℕ) (bs : List ℕ) : Type 0 where
-  pub due : each_due LB (band_run most bs) at bs ≡ Accepted
+  pub due : each_due LB (band_run most bs) at bs ≡ accepted
   pub few : k ≤ most_bands → k + band_run most bs ≤ most_bands
   pub held : k ≤ room → k + band_run most bs ≤ room
 
-pub run_is : (most room k at : ℕ) (bs : List ℕ) → each_band_due most room k at bs ≡ Accepted → RunIs most room k at bs
+pub run_is : (most room k at : ℕ) (bs : List ℕ) → each_band_due most room k at bs ≡ accepted → RunIs most room k at bs
 unfolding each_band_due band_run each_due
 run_is zero room k at bs h = record { due = refl; few = λ l. omega arith; held = λ l. omega arith }
 run_is (suc most) room k at bs h =
@@ -68,14 +68,14 @@ run_is (suc most) room k at bs h =
     let a = past_all (band_due room k at bs) (each_band_due most room (suc k) (at + size LB) rest) (rw m at h) in
     let t = taken_is room k at bs a.0 in
     let r = run_is most room (suc k) (at + size LB) rest a.1 in
-    let due : each_due LB (band_run (suc most) bs) at bs ≡ Accepted = rw (m, due_alone LB bs refl, due_in_lem LB at bs (record { whole = t.whole; begins = m })) r.due in
+    let due : each_due LB (band_run (suc most) bs) at bs ≡ accepted = rw (m, due_alone LB bs refl, due_in_lem LB at bs (record { whole = t.whole; begins = m })) r.due in
     let few = r.few t.few in
     let held = r.held t.held in
     record { due = due; few = λ l. rw m (omega (arith, few)); held = λ l. rw m (omega (arith, held)) })
     (λ m. record { due = rw m; few = λ l. rw m (omega arith); held = λ l. rw m (omega arith) })
 
 -- the same bytes are accepted by every list that has room for so many
-pub run_room : (most room other k at : ℕ) (bs : List ℕ) → each_band_due most room k at bs ≡ Accepted → k + band_run most bs ≤ other → each_band_due most other k at bs ≡ Accepted
+pub run_room : (most room other k at : ℕ) (bs : List ℕ) → each_band_due most room k at bs ≡ accepted → k + band_run most bs ≤ other → each_band_due most other k at bs ≡ accepted
 unfolding each_band_due band_run
 run_room zero room other k at bs h l = refl
 run_room (suc most) room other k at bs h l =
@@ -96,7 +96,7 @@ unfolding records_bytes record_bytes marked
 tasks_unmarked n [] = refl
 tasks_unmarked n (t ∷ ts) = refl
 
-pub run_back : {bs : List Band} → Each BandSmall bs → (rest : List ℕ) → marked LB rest ≡ false → (most room k at : ℕ) → length bs < most → k + length bs ≤ most_bands → k + length bs ≤ room → (each_band_due most room k at (records_bytes bands bs ++ rest) ≡ Accepted) × (band_run most (records_bytes bands bs ++ rest) ≡ length bs)
+pub run_back : {bs : List Band} → Each BandSmall bs → (rest : List ℕ) → marked LB rest ≡ false → (most room k at : ℕ) → length bs < most → k + length bs ≤ most_bands → k + length bs ≤ room → (each_band_due most room k at (records_bytes bands bs ++ rest) ≡ accepted) × (band_run most (records_bytes bands bs ++ rest) ≡ length bs)
 unfolding records_bytes each_band_due band_run
 run_back nothing rest m zero room k at l a b = (refl, refl)
 run_back nothing rest m (suc most) room k at l a b = (rw m, rw m)

@@ -1,11 +1,12 @@
 -- Whole files: how long a written plan is and how it is stored; a written plan is read back as itself, and a file that is read is the
 -- writing of what was read.
+use Rattle.std.specs.Prelude.{Ok, Err}
+use Rattle.plan.specs.Refusals.{Checked, accepted}
 use mathlib.Core.Path.{◌≡◌, refl, sym, ap, ◌∙◌, subst}
 use mathlib.Core.List.{List, [], ◌++◌, append-nil}
 use Prim.Native.Nat.{ℕ, zero, suc, ◌+◌, ◌*◌, ◌≤◌, ◌<◌}
 use native.Mathlib.Omega.{arith}
 use native.Mathlib.Nat.{zero-add}
-use lib.IntN.{ℤ}
 use lib.Dec.{eqb, ltb}
 use lib.ListN.{length, take, drop, length-append, length-drop, take-append-drop}
 use lib.Seq.{drop_at, drop-drop, take_all, sets}
@@ -14,20 +15,17 @@ use Rattle.integers.specs.Tests.{or}
 use Rattle.integers.proofs.Tests.{or_none}
 use Rattle.integers.specs.Lists.{Each}
 use Rattle.plan.specs.declared.Task.{Task}
+use Rattle.plan.specs.declared.Resource.{Resource}
+use Rattle.plan.specs.declared.Band.{Band}
 use Rattle.plan.specs.declared.Sense.{Sense}
 use Rattle.plan.specs.declared.Sense.TheVariants.{AtMost, AtLeast}
-use Rattle.plan.specs.declared.Checked.{Checked}
-use Rattle.plan.specs.declared.Checked.TheVariants.{Accepted, Refused}
 use Rattle.plan.specs.declared.Refusal.TheVariants.{TooManyTasks, ResourceCount, WrongMark, CutShort}
 use Rattle.plan.specs.Tasks.{most_tasks, most_resources, most_bands}
 use Rattle.rules.specs.Frame.{Frame, resource_count}
 use Rattle.rules.specs.Calls.{or_else, refuse_if, check}
 use Rattle.rules.proofs.Checks.{accepts, past, past_all}
-use Rattle.rows.specs.View.{resources_of, bands_of, tasks_of, frame_of}
-use Rattle.rows.proofs.View.{length_resources, length_bands, length_tasks, resources_take, bands_take, tasks_take}
 use Rattle.format.specs.declared.Mark.TheVariants.{PL}
 use Rattle.format.specs.declared.Header.{Header}
-use Rattle.format.specs.declared.HeaderAnswer.{HeaderAnswer}
 use Rattle.format.specs.Format.{resources, bands, tasks, size, widths, record_bytes, fields_in, numbers_in, header_numbers, header_from, sense_number, sense_from, task_mark, bands_from, tasks_from, file_length}
 use Rattle.format.specs.Writing.{records_bytes, header_of, written, Identified}
 use Rattle.format.specs.Reading.{due, header_in, header_due, bands_due, band_count, bands_in, looked_at, frame_in, tasks_in, body_due, file_end, run_due, run_in, Read, read_unless, read_checked, header_unless, plan_after, read_header, read_body, read_after, read_plan, header_plan}
@@ -116,7 +114,7 @@ module _ (f : Frame) (ts : List Task) where
       ∙ drop_at banded last (count * size bands.due) length_banded
 
   -- ---- read back, where the plan passes the checks
-  module _ (ids : Each Identified f.resources) (ok : check f ts ≡ Accepted) where
+  module _ (ids : Each Identified f.resources) (ok : check f ts ≡ accepted) where
     sense_small : (s : Sense) → sense_number s < 2
     sense_small AtMost = omega arith
     sense_small AtLeast = omega arith
@@ -137,11 +135,11 @@ module _ (f : Frame) (ts : List Task) where
     unfolding header_in header_from header_numbers written
     header_back = rw (record_read PL header_held (listed ++ (banded ++ last)))
 
-    first_due : due PL 0 (written f ts) ≡ Accepted
+    first_due : due PL 0 (written f ts) ≡ accepted
     unfolding written
     first_due = record_due PL header_held (listed ++ (banded ++ last)) 0
 
-    header_passes : header_due h ≡ Accepted
+    header_passes : header_due h ≡ accepted
     unfolding header_due header_of
     header_passes =
         let a = accepts f ts ok in
@@ -153,10 +151,10 @@ module _ (f : Frame) (ts : List Task) where
           le-ltb most_resources n a.most,
         )
 
-    resources_back : (run_due resources (written f ts) (size PL) n ≡ Accepted) × (run_in resources (written f ts) (size PL) n ≡ f.resources)
+    resources_back : (run_due resources (written f ts) (size PL) n ≡ accepted) × (run_in resources (written f ts) (size PL) n ≡ f.resources)
     resources_back = rw after_first (records_back resources_lawful (resources_small f ts ok ids) (banded ++ last) (size PL))
 
-    bands_run : (bands_due most_bands (written f ts) (bands_from n) ≡ Accepted) × (band_count (written f ts) (bands_from n) ≡ count)
+    bands_run : (bands_due most_bands (written f ts) (bands_from n) ≡ accepted) × (band_count (written f ts) (bands_from n) ≡ count)
     unfolding bands_due band_count
     bands_run =
         let few = (accepts f ts ok).few_bands in
@@ -170,10 +168,10 @@ module _ (f : Frame) (ts : List Task) where
     bands_back : run_in bands (written f ts) (bands_from n) count ≡ f.bands
     bands_back = rw after_listed (records_back bands_lawful (bands_small f ts ok) last (bands_from n)).1
 
-    tasks_back : (run_due (tasks n) (written f ts) (tasks_from n count) (length ts) ≡ Accepted) × (run_in (tasks n) (written f ts) (tasks_from n count) (length ts) ≡ ts)
+    tasks_back : (run_due (tasks n) (written f ts) (tasks_from n count) (length ts) ≡ accepted) × (run_in (tasks n) (written f ts) (tasks_from n count) (length ts) ≡ ts)
     tasks_back = rw after_banded (rw append-nil at (records_back (tasks_lawful n) (tasks_small f ts ok) [] (tasks_from n count)))
 
-    body_passes : body_due most_bands h (written f ts) ≡ Accepted
+    body_passes : body_due most_bands h (written f ts) ≡ accepted
     unfolding body_due header_of
     body_passes =
         simp (
@@ -203,7 +201,7 @@ pub record Few (h : Header) : Type 0 where
   pub tasks : h.tasks ≤ most_tasks
   pub resources : h.resources ≤ most_resources
 
-pub few : (h : Header) → header_due h ≡ Accepted → Few h
+pub few : (h : Header) → header_due h ≡ accepted → Few h
 unfolding header_due
 few h e =
     let none = eqb h.resources 0 in
@@ -218,15 +216,15 @@ few h e =
     }
 
 -- a plan is read only past every check
-pub read_is : (c : Checked) (x : Read) {f : Frame} {ts : List Task} → read_unless c x ≡ Read.Plan f ts → (c ≡ Accepted) × (x ≡ Read.Plan f ts)
-read_is Accepted x e = (refl, e)
-read_is (Refused g) x e = (cc, cc)
+pub read_is : (c : Checked) (x : Read) {f : Frame} {ts : List Task} → read_unless c x ≡ Read.Plan f ts → (c ≡ accepted) × (x ≡ Read.Plan f ts)
+read_is (Ok _) x e = (refl, e)
+read_is (Err g) x e = (cc, cc)
 
-pub header_is : (c : Checked) (h : Header) (file : List ℕ) {f : Frame} {ts : List Task} → plan_after file (header_unless c h) ≡ Read.Plan f ts → (c ≡ Accepted) × (read_after most_bands h file ≡ Read.Plan f ts)
-header_is Accepted h file e = (refl, e)
-header_is (Refused g) h file e = (cc, cc)
+pub header_is : (c : Checked) (h : Header) (file : List ℕ) {f : Frame} {ts : List Task} → plan_after file (header_unless c h) ≡ Read.Plan f ts → (c ≡ accepted) × (read_after most_bands h file ≡ Read.Plan f ts)
+header_is (Ok _) h file e = (refl, e)
+header_is (Err g) h file e = (cc, cc)
 
-checked_is : (x : Read) {f : Frame} {ts : List Task} → read_checked x ≡ Read.Plan f ts → (x ≡ Read.Plan f ts) × (check f ts ≡ Accepted)
+checked_is : (x : Read) {f : Frame} {ts : List Task} → read_checked x ≡ Read.Plan f ts → (x ≡ Read.Plan f ts) × (check f ts ≡ accepted)
 checked_is (Read.Plan g us) {f} {ts} e =
     let r = read_is (check g us) (Read.Plan g us) e in
     let plan = r.1 in
@@ -236,21 +234,21 @@ checked_is (Read.Plan g us) {f} {ts} e =
 checked_is (Read.Refuse g) e = (cc, cc)
 
 -- the plan behind a header passes the checks
-pub after_is : (room : ℕ) (h : Header) (file : List ℕ) {f : Frame} {ts : List Task} → read_after room h file ≡ Read.Plan f ts → (read_body room h file ≡ Read.Plan f ts) × (check f ts ≡ Accepted)
+pub after_is : (room : ℕ) (h : Header) (file : List ℕ) {f : Frame} {ts : List Task} → read_after room h file ≡ Read.Plan f ts → (read_body room h file ≡ Read.Plan f ts) × (check f ts ≡ accepted)
 unfolding read_after
 after_is room h file e = checked_is (read_body room h file) e
 
 -- what each check says of a file and of the plan that is read from it
 pub record Whole (file : List ℕ) (f : Frame) (ts : List Task) : Type 0 where
-  pub first : due PL 0 file ≡ Accepted
+  pub first : due PL 0 file ≡ accepted
   pub few : Few (header_in file)
-  pub listed : run_due resources file (size PL) (header_in file).resources ≡ Accepted
-  pub banded : bands_due most_bands file (bands_from (header_in file).resources) ≡ Accepted
-  pub last : run_due (tasks (header_in file).resources) file (tasks_from (header_in file).resources (bands_in (header_in file) file)) (header_in file).tasks ≡ Accepted
+  pub listed : run_due resources file (size PL) (header_in file).resources ≡ accepted
+  pub banded : bands_due most_bands file (bands_from (header_in file).resources) ≡ accepted
+  pub last : run_due (tasks (header_in file).resources) file (tasks_from (header_in file).resources (bands_in (header_in file) file)) (header_in file).tasks ≡ accepted
   pub ends : length file ≤ file_end (header_in file) file
   pub frame : frame_in (header_in file) file ≡ f
   pub tasks : tasks_in (header_in file) file ≡ ts
-  pub accepted : check f ts ≡ Accepted
+  pub accepted : check f ts ≡ accepted
 
 pub whole : {file : List ℕ} {f : Frame} {ts : List Task} → read_plan file ≡ Read.Plan f ts → Whole file f ts
 unfolding read_plan read_header read_body body_due
@@ -353,20 +351,17 @@ module _ (file : List ℕ) (f : Frame) (ts : List Task) (w : Whole file f ts) (b
   pub identified : Each Identified f.resources
   identified = rw w.frame at resources_written.1
 
--- ---- rows that a plan is read into or written from
-pub header_few : (file : List ℕ) {h : Header} → read_header file ≡ HeaderAnswer.Counts h → Few h
+-- ---- lists that a plan is read into
+pub header_few : (file : List ℕ) {h : Header} → read_header file ≡ Ok h → Few h
 unfolding read_header
 header_few file {h} e =
     let r = counts_is (or_else (due PL 0 file) (header_due (header_in file))) (header_in file) e in
     subst Few r.1 (few (header_in file) (past_all (due PL 0 file) (header_due (header_in file)) r.0).1)
   where
-    counts_is : (c : Checked) (g : Header) → header_unless c g ≡ HeaderAnswer.Counts h → (c ≡ Accepted) × (g ≡ h)
-    counts_is Accepted g e = (refl, cc)
-    counts_is (Refused x) g e = (cc, cc)
+    counts_is : (c : Checked) (g : Header) → header_unless c g ≡ Ok h → (c ≡ accepted) × (g ≡ h)
+    counts_is (Ok _) g e = (refl, cc)
+    counts_is (Err x) g e = (cc, cc)
 
-pub rows_read : (h : Header) (file : List ℕ) (q b s : List (List ℤ)) → take h.resources (resources_of q) ≡ run_in resources file (size PL) h.resources → take (bands_in h file) (bands_of b) ≡ run_in bands file (bands_from h.resources) (bands_in h file) → take h.tasks (tasks_of s) ≡ run_in (tasks h.resources) file (tasks_from h.resources (bands_in h file)) h.tasks → header_plan h q b s (bands_in h file) ≡ Read.Plan (frame_in h file) (tasks_in h file)
+pub lists_read : (h : Header) (file : List ℕ) (qs : List Resource) (bs : List Band) (ts : List Task) → take h.resources qs ≡ run_in resources file (size PL) h.resources → take (bands_in h file) bs ≡ run_in bands file (bands_from h.resources) (bands_in h file) → take h.tasks ts ≡ run_in (tasks h.resources) file (tasks_from h.resources (bands_in h file)) h.tasks → header_plan h qs bs ts (bands_in h file) ≡ Read.Plan (frame_in h file) (tasks_in h file)
 unfolding frame_in tasks_in
-rows_read h file q b s x y v = rw (resources_take h.resources q, bands_take (bands_in h file) b, tasks_take h.tasks s, x, y, v)
-
-pub rows_written : (sense : Sense) (q b s : List (List ℤ)) → length (written (frame_of sense q b) (tasks_of s)) ≡ file_length (length q) (length b) (length s)
-rows_written sense q b s = length_written (frame_of sense q b) (tasks_of s) ∙ rw (length_resources q, length_bands b, length_tasks s)
+lists_read h file qs bs ts x y v = rw (x, y, v)

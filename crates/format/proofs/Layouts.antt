@@ -1,18 +1,19 @@
 -- The three lists of a plan are laid out lawfully: an accepted plan's resources, bands and tasks are held by their records, and each is read
 -- back.
+use Rattle.plan.specs.Refusals.{accepted}
 use mathlib.Core.Path.{◌≡◌, refl, sym}
 use mathlib.Core.Bool.{true}
 use mathlib.Core.List.{List, [], ◌∷◌, ◌++◌}
-use Prim.Native.Nat.{ℕ, suc, ◌%◌, ◌≤◌, ◌<◌, ◌^◌}
+use Prim.Native.Nat.{ℕ, suc, ◌≤◌, ◌<◌, ◌^◌}
 use native.Mathlib.Omega.{arith}
 use native.Mathlib.Nat.{pow-le-pow_right}
 use lib.IntN.{ℤ}
 use lib.ListN.{length, get_or}
-use mir.Syntax.{w32, w64}
+use mir.Syntax.{w32}
 use mir.Val.{SFits, to_z, of_z}
 use mir.Facts.{Fits-of_z, to_z-of_z, of_z-to_z, sfits_to_z}
 use Rattle.integers.specs.Ends.{Within}
-use Rattle.integers.specs.Lists.{Each, cell}
+use Rattle.integers.specs.Lists.{Each}
 use Rattle.integers.specs.Lists.Each.{nothing, also}
 use Rattle.integers.proofs.Z.{z}
 use Rattle.integers.specs.Tests.{all}
@@ -22,18 +23,16 @@ use Rattle.plan.specs.declared.Task.{Task}
 use Rattle.plan.specs.declared.Resource.{Resource}
 use Rattle.plan.specs.declared.Kind.{Kind}
 use Rattle.plan.specs.declared.Band.{Band}
-use Rattle.plan.specs.declared.Checked.TheVariants.{Accepted}
 use Rattle.plan.specs.Powers.{power_ends}
 use Rattle.plan.specs.Tasks.{most_resources, no_resource, TaskFits}
 use Rattle.rules.specs.Frame.{Frame, resource_count}
 use Rattle.rules.specs.Calls.{band_fits, check}
 use Rattle.rules.proofs.Checks.{accepts}
 use Rattle.rules.proofs.Bands.{fits_ends, fits_place, ends_in}
-use Rattle.rows.specs.View.{id_of, resource_of, resources_of}
 use Rattle.format.specs.declared.Mark.{Mark}
 use Rattle.format.specs.declared.Mark.TheVariants.{RS, RH, LB, TK}
 use Rattle.format.specs.Format.{resources, bands, tasks, marked, due_in, kind_mark, kind_from, widths, record_bytes, resource_numbers, resource_from, band_numbers, band_from, task_numbers, task_from}
-use Rattle.format.specs.Writing.{Identified, ResourceSmall, two_bytes, BandSmall, TaskSmall}
+use Rattle.format.specs.Writing.{Identified, Limited, ResourceSmall, two_bytes, BandSmall, TaskSmall}
 use Rattle.format.proofs.Numbers.{beyond}
 use Rattle.format.proofs.Records.{Held, none, more, due_alone, Lawful}
 
@@ -79,16 +78,6 @@ resources_lawful =
 pub resource_identified : (k : Mark) (ns : List ℕ) → Held (widths RS) ns → Identified (resource_from k ns)
 unfolding resource_from beyond
 resource_identified k _ (more a r) = sfits_to_z (record { fits = a })
-
--- every row's identifier is one of 32 bits
-id_small : (x : ℤ) → SFits w32 (id_of x)
-unfolding id_of
-id_small x = let h : of_z w64 x % 2 ^ 32 < 2 ^ 32 = omega arith in sfits_to_z (record { fits = h })
-
-pub rows_identified : (q : List (List ℤ)) → Each Identified (resources_of q)
-unfolding resources_of resource_of
-rows_identified [] = nothing
-rows_identified (r ∷ q) = also (id_small (cell r 0)) (rows_identified q)
 
 -- ---- bands
 pub bands_lawful : Lawful bands BandSmall
@@ -144,12 +133,16 @@ tasks_lawful n =
         simp (bits a, bits b, bits c, bits d, bits e, bits f, bits g, bits h)
 
 -- ---- numbers within the ends of days, durations and powers are numbers of four bytes
-limits_small : {qs : List Resource} → Each Identified qs → ((r : ℕ) → r < length qs → Within power_ends (get_or qs r no_resource).limit.0) → Each ResourceSmall qs
-limits_small nothing g = nothing
-limits_small (also {x = q} i is) g =
+limits_fit : {qs : List Resource} → ((r : ℕ) → r < length qs → Within power_ends (get_or qs r no_resource).limit.0) → Each Limited qs
+limits_fit {qs = []} g = nothing
+limits_fit {qs = q ∷ qs} g =
     let l = g 0 (omega arith) in
     let small : SFits w32 q.limit.0 = omega z in
-    also (record { id = i; limit = small }) (limits_small is (λ r h. g (suc r) (omega arith)))
+    also small (limits_fit (λ r h. g (suc r) (omega arith)))
+
+limits_small : {qs : List Resource} → Each Identified qs → Each Limited qs → Each ResourceSmall qs
+limits_small nothing nothing = nothing
+limits_small (also i is) (also l ls) = also (record { id = i; limit = l }) (limits_small is ls)
 
 fitting_small : (n : ℕ) → n ≤ most_resources → (bs : List Band) → all (band_fits n) bs ≡ true → Each BandSmall bs
 unfolding all
@@ -163,9 +156,12 @@ fitting_small n few (b ∷ bs) h =
     let limit : SFits w32 b.limit.0 = omega z in
     also (record { place = place; from = from; limit = limit }) (fitting_small n few bs (and_second (band_fits n b) (all (band_fits n) bs) h))
 
-module _ (f : Frame) (ts : List Task) (ok : check f ts ≡ Accepted) where
+module _ (f : Frame) (ts : List Task) (ok : check f ts ≡ accepted) where
+  pub resources_limited : Each Limited f.resources
+  resources_limited = limits_fit (accepts f ts ok).limits
+
   pub resources_small : Each Identified f.resources → Each ResourceSmall f.resources
-  resources_small ids = limits_small ids (accepts f ts ok).limits
+  resources_small ids = limits_small ids resources_limited
 
   pub bands_small : Each BandSmall f.bands
   bands_small = fitting_small (resource_count f) (accepts f ts ok).most f.bands (accepts f ts ok).placed

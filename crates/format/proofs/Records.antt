@@ -1,5 +1,6 @@
 -- Laws of records: a record's numbers from its bytes and back, for any table of widths; and the records of a list, one after another, for
 -- any layout.
+use Rattle.plan.specs.Refusals.{accepted}
 use mathlib.Core.Path.{◌≡◌, refl, sym, ap, ◌∙◌, subst}
 use mathlib.Core.Bool.{Bool, true, false, not}
 use mathlib.Core.List.{List, [], ◌∷◌, ◌++◌, append_assoc}
@@ -13,7 +14,6 @@ use borrow.Author.Tests.{ltb-false, le-ltb, eqb-true, not-false}
 use Rattle.integers.specs.Lists.{Each}
 use Rattle.integers.specs.Lists.Each.{nothing, also}
 use Rattle.integers.proofs.Tests.{by_cases, and_first, and_second}
-use Rattle.plan.specs.declared.Checked.TheVariants.{Accepted}
 use Rattle.plan.specs.declared.Refusal.{Refusal}
 use Rattle.plan.specs.declared.Refusal.TheVariants.{WrongMark, CutShort}
 use Rattle.rules.specs.Calls.{or_else, refuse_if}
@@ -133,14 +133,14 @@ module _ (k : Mark) {ns : List ℕ} (h : Held (widths k) ns) (rest : List ℕ) w
         fields_read h rest,
       )
 
-  pub record_due : (at : ℕ) → due k at (record_bytes k ns ++ rest) ≡ Accepted
+  pub record_due : (at : ℕ) → due k at (record_bytes k ns ++ rest) ≡ accepted
   unfolding due
   record_due at =
       let bs = record_bytes k ns ++ rest in
       let n : size k ≤ length bs = omega (arith, length-append (record_bytes k ns) rest, length_record k ns (held_length h)) in
       simp (le-ltb (length bs) mark_size (omega arith), le-ltb (length bs) (size k) n, own_mark k ns rest)
 
-pub unrefused : (t : Bool) (f : Refusal) → refuse_if t f ≡ Accepted → t ≡ false
+pub unrefused : (t : Bool) (f : Refusal) → refuse_if t f ≡ accepted → t ≡ false
 unrefused true f h = cc
 unrefused false f h = refl
 
@@ -149,7 +149,7 @@ pub record Due (k : Mark) (bs : List ℕ) : Type 0 where
   pub whole : size k ≤ length bs
   pub begins : marked k bs ≡ true
 
-pub due_is : (k : Mark) (at : ℕ) (bs : List ℕ) → due k at bs ≡ Accepted → Due k bs
+pub due_is : (k : Mark) (at : ℕ) (bs : List ℕ) → due k at bs ≡ accepted → Due k bs
 unfolding due
 due_is k at bs h =
     let short = ltb (length bs) (size k) in
@@ -157,7 +157,7 @@ due_is k at bs h =
     let b = past (not (marked k bs)) (WrongMark at) (refuse_if short (CutShort at)) a.1 in
     record { whole = ltb-false (length bs) (size k) (unrefused short (CutShort at) b.1); begins = not-false (marked k bs) b.0 }
 
-pub due_in_lem : (k : Mark) (at : ℕ) (bs : List ℕ) → Due k bs → due k at bs ≡ Accepted
+pub due_in_lem : (k : Mark) (at : ℕ) (bs : List ℕ) → Due k bs → due k at bs ≡ accepted
 unfolding due
 due_in_lem k at bs d =
     let w = d.whole in
@@ -242,7 +242,7 @@ module _ {A : Type 0} {l : Layout A} {P : A → Type 0} (w : Lawful l P) where
       ∙ rw (length_one x, length_records xs) (sym (suc-mul (length xs) (size l.due) ∙ add_comm (length xs * size l.due) (size l.due)))
 
   -- a list written and read
-  pub records_back : {xs : List A} → Each P xs → (rest : List ℕ) (at : ℕ) → (each_due l.due (length xs) at (records_bytes l xs ++ rest) ≡ Accepted) × (records_in l (length xs) (records_bytes l xs ++ rest) ≡ xs)
+  pub records_back : {xs : List A} → Each P xs → (rest : List ℕ) (at : ℕ) → (each_due l.due (length xs) at (records_bytes l xs ++ rest) ≡ accepted) × (records_in l (length xs) (records_bytes l xs ++ rest) ≡ xs)
   unfolding records_bytes each_due records_in
   records_back nothing rest at = (refl, refl)
   records_back (also {x} {xs} p ps) rest at =
@@ -259,7 +259,7 @@ module _ {A : Type 0} {l : Layout A} {P : A → Type 0} (w : Lawful l P) where
 
   -- and read and written
   module _ (Q : A → Type 0) (f : (k : Mark) (ns : List ℕ) → Held (widths l.due) ns → Q (l.from k ns)) where
-    pub records_written : (n at : ℕ) (bs : List ℕ) → each_due l.due n at bs ≡ Accepted → Each Byte bs → (records_bytes l (records_in l n bs) ≡ take (n * size l.due) bs) × Each Q (records_in l n bs)
+    pub records_written : (n at : ℕ) (bs : List ℕ) → each_due l.due n at bs ≡ accepted → Each Byte bs → (records_bytes l (records_in l n bs) ≡ take (n * size l.due) bs) × Each Q (records_in l n bs)
     unfolding each_due records_in records_bytes
     records_written zero at bs h a = (rw (zero-mul (size l.due)), nothing)
     records_written (suc n) at bs h a =

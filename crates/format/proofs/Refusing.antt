@@ -1,5 +1,6 @@
 -- Every place that a refused file is given lies within the longest file: 10,150 bytes, for 16 resources, 64 bands and 256 tasks. The file may be of
 -- any length: a count above its most is refused before a record of the body is read, and a 65th band where it is met.
+use Rattle.std.specs.Prelude.{Ok, Err}
 use mathlib.Core.Path.{◌≡◌, refl, subst}
 use mathlib.Core.Logic.{◌≢◌}
 use mathlib.Core.Bool.{not}
@@ -11,11 +12,9 @@ use lib.Dec.{eqb, ltb}
 use lib.ListN.{length, drop}
 use Rattle.integers.specs.Tests.{or}
 use Rattle.integers.proofs.Tests.{by_cases}
-use Rattle.plan.specs.declared.Checked.{Checked}
-use Rattle.plan.specs.declared.Checked.TheVariants.{Accepted, Refused}
 use Rattle.plan.specs.declared.Refusal.{Refusal}
 use Rattle.plan.specs.declared.Refusal.TheVariants.{TooManyTasks, ResourceCount, WrongMark, CutShort, ListShort, BandOutside}
-use Rattle.plan.specs.Refusals.{number, place}
+use Rattle.plan.specs.Refusals.{number, place, Checked, accepted}
 use Rattle.plan.specs.Tasks.{most_resources, most_bands, most_tasks}
 use Rattle.rules.specs.Calls.{or_else, refuse_if, check}
 use Rattle.rules.proofs.Checks.{past_all}
@@ -23,7 +22,7 @@ use Rattle.rules.proofs.Bounds.{PlaceIn, PlacedTo, last_place, placed_then, plac
 use Rattle.format.specs.declared.Mark.{Mark}
 use Rattle.format.specs.declared.Mark.TheVariants.{PL, LB}
 use Rattle.format.specs.declared.Header.{Header}
-use Rattle.format.specs.declared.HeaderAnswer.{HeaderAnswer}
+use Rattle.format.specs.Reading.{HeaderAnswer}
 use Rattle.format.specs.Format.{resources, tasks, size, mark_size, marked, due_in, bands_from, tasks_from, longest_file}
 use Rattle.format.specs.Reading.{Read, due, each_due, band_due, each_band_due, bands_due, band_count, bands_in, looked_at, run_due, header_in, header_due, lists_due, file_end, frame_in, tasks_in, body_due, header_unless, read_unless, read_checked, read_header, read_body, read_after, read_plan, lent_after, plan_after, read_lent}
 use Rattle.format.proofs.Bands.{run_is, taken_is}
@@ -106,8 +105,8 @@ PlacedRead (Read.Plan f ts) = Unit {0}
 PlacedRead (Read.Refuse f) = PlaceIn longest_file f
 
 unless_placed : (c : Checked) (x : Read) → Placed c → PlacedRead x → PlacedRead (read_unless c x)
-unless_placed Accepted x p q = q
-unless_placed (Refused f) x p q = p
+unless_placed (Ok _) x p q = q
+unless_placed (Err f) x p q = p
 
 checked_placed : (x : Read) → PlacedRead x → PlacedRead (read_checked x)
 checked_placed (Read.Plan f ts) p =
@@ -121,12 +120,12 @@ after_placed room h file f =
     checked_placed (read_unless (body_due room h file) x) (unless_placed (body_due room h file) x (body_placed room h file f) tt)
 
 -- by what the header answers
-module _ (file : List ℕ) (next : HeaderAnswer → Read) (refuses : (f : Refusal) → next (HeaderAnswer.Refused f) ≡ Read.Refuse f) where
-  answer_placed : (c : Checked) (h : Header) → Placed c → (c ≡ Accepted → PlacedRead (next (HeaderAnswer.Counts h))) → PlacedRead (next (header_unless c h))
-  answer_placed Accepted h p q = q refl
-  answer_placed (Refused f) h p q = rw (refuses f) p
+module _ (file : List ℕ) (next : HeaderAnswer → Read) (refuses : (f : Refusal) → next (Err f) ≡ Read.Refuse f) where
+  answer_placed : (c : Checked) (h : Header) → Placed c → (c ≡ accepted → PlacedRead (next (Ok h))) → PlacedRead (next (header_unless c h))
+  answer_placed (Ok _) h p q = q refl
+  answer_placed (Err f) h p q = rw (refuses f) p
 
-  file_placed : ((h : Header) → Few h → PlacedRead (next (HeaderAnswer.Counts h))) → PlacedRead (next (read_header file))
+  file_placed : ((h : Header) → Few h → PlacedRead (next (Ok h))) → PlacedRead (next (read_header file))
   unfolding read_header
   file_placed q =
       let h = header_in file in

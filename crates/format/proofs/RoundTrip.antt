@@ -1,5 +1,7 @@
 -- ROUND TRIPS. An accepted plan written and read gives the same plan; an accepted file read and written gives the same bytes; a file
 -- is accepted exactly if it is the writing of a plan that passes the checks; and lists of so many places take the plans that fit them.
+use Rattle.std.specs.Prelude.{Ok, Err}
+use Rattle.plan.specs.Refusals.{Checked, accepted}
 use mathlib.Core.Path.{◌≡◌, refl, sym, ap, ◌∙◌, subst}
 use mathlib.Core.List.{List, ◌++◌}
 use Prim.Native.Nat.{ℕ, ◌≤◌}
@@ -13,8 +15,6 @@ use Rattle.integers.proofs.Tests.{or_none}
 use Rattle.plan.specs.declared.Task.{Task}
 use Rattle.plan.specs.declared.Resource.{Resource}
 use Rattle.plan.specs.declared.Sense.{Sense}
-use Rattle.plan.specs.declared.Checked.{Checked}
-use Rattle.plan.specs.declared.Checked.TheVariants.{Accepted, Refused}
 use Rattle.plan.specs.declared.Refusal.TheVariants.{CutShort, ListShort}
 use Rattle.plan.specs.Tasks.{most_bands}
 use Rattle.rules.specs.Frame.{Frame, unbanded, resource_count}
@@ -52,7 +52,7 @@ unbanded_written sense qs ts = refl
 
 -- ---- lists of so many places
 -- what was due for one band list is due for every other that has room
-body_room : (h : Header) (file : List ℕ) (one other : ℕ) → bands_in h file ≤ other → body_due one h file ≡ Accepted → body_due other h file ≡ Accepted
+body_room : (h : Header) (file : List ℕ) (one other : ℕ) → bands_in h file ≤ other → body_due one h file ≡ accepted → body_due other h file ≡ accepted
 unfolding body_due bands_due bands_in band_count
 body_room h file one other l e =
     let at = bands_from h.resources in
@@ -102,12 +102,12 @@ module _ (room : ℕ) (h : Header) (file : List ℕ) {f : Frame} {ts : List Task
   room_after e l = read_room most_bands room (omega (arith, counted most_bands e)) e
 
 module _ (places bandRoom room : ℕ) (file : List ℕ) {f : Frame} {ts : List Task} where
-  lent_after_lem : (c : Checked) (h : Header) → lent_after places bandRoom room file (header_unless c h) ≡ Read.Plan f ts → (plan_after file (header_unless c h) ≡ Read.Plan f ts) × (lists_due places room h ≡ Accepted) × (length f.bands ≤ bandRoom)
-  lent_after_lem Accepted h e =
+  lent_after_lem : (c : Checked) (h : Header) → lent_after places bandRoom room file (header_unless c h) ≡ Read.Plan f ts → (plan_after file (header_unless c h) ≡ Read.Plan f ts) × (lists_due places room h ≡ accepted) × (length f.bands ≤ bandRoom)
+  lent_after_lem (Ok _) h e =
       let r = read_is (lists_due places room h) (read_after bandRoom h file) e in
       let m = after_room bandRoom h file r.1 in
       (m.0, r.0, m.1)
-  lent_after_lem (Refused g) h e = let q : ◌≡◌ {A = ℕ} 0 1 = cc in absurd (omega arith)
+  lent_after_lem (Err g) h e = let q : ◌≡◌ {A = ℕ} 0 1 = cc in absurd (omega arith)
 
   counts : read_plan file ≡ Read.Plan f ts → (resource_count f ≡ (header_in file).resources) × (length ts ≡ (header_in file).tasks)
   counts e =

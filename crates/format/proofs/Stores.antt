@@ -1,18 +1,19 @@
 -- Runs of stores: one run after another is one run, a run from the first place is a list laid over another, and a record is stored field
 -- after field.
-use mathlib.Core.Path.{◌≡◌, refl, ◌∙◌}
-use mathlib.Core.List.{List, [], ◌∷◌, ◌++◌}
-use Prim.Native.Nat.{ℕ, suc, ◌+◌, ◌/◌, ◌≤◌}
+use mathlib.Core.Path.{◌≡◌, refl, sym, ◌∙◌}
+use mathlib.Core.List.{List, [], ◌∷◌, ◌++◌, append_assoc}
+use Prim.Native.Nat.{ℕ, suc, ◌+◌, ◌≤◌}
 use native.Mathlib.Omega.{arith}
 use native.Mathlib.Nat.{zero-add, add-zero, add-suc, suc-add, add_assoc}
 use lib.ListN.{length, take, drop, set}
-use lib.Seq.{sets, sets-eq, take_at}
+use lib.Seq.{drop-drop, sets, sets-eq, take_at}
+use borrow.Rule.Slice.PartMut.{put_mid}
 use Rattle.format.specs.declared.Mark.{Mark}
 use Rattle.format.specs.declared.Mark.TheVariants.{PL, RS, RH, LB, TK}
 use Rattle.format.specs.Numbers.{bytes_of}
 use Rattle.format.specs.Format.{mark, mark_size, widths, record_bytes, field_bytes}
 use Rattle.format.specs.Writing.{laid}
-use Rattle.format.proofs.Numbers.{beyond, length_bytes, bytes_split}
+use Rattle.format.proofs.Numbers.{length_bytes}
 
 module _ {A : Type 0} where
   pub sets_append : (l : List A) (i : ℕ) (a b : List A) → sets l i (a ++ b) ≡ sets (sets l i a) (i + length a) b
@@ -25,10 +26,10 @@ module _ {A : Type 0} where
   pub sets_taken : (n : ℕ) (xs ds : List A) → length xs ≡ n → n ≤ length ds → take n (sets ds 0 xs) ≡ xs
   sets_taken n xs ds e h = rw (sets_laid xs ds (omega arith)) (take_at xs (drop (length xs) ds) n e)
 
--- a number's low bytes stored, then its high bytes
-pub put_parts : (m k : ℕ) (l : List ℕ) (at x : ℕ) → sets l at (bytes_of (m + k) x) ≡ sets (sets l at (bytes_of m x)) (at + m) (bytes_of k (x / beyond m))
-put_parts m k l at x =
-    rw (bytes_split m k x, sets_append l at (bytes_of m x) (bytes_of k (x / beyond m)), length_bytes m x)
+-- so many places of a list, written by others: a run of stores
+pub mid_stored : {A : Type 0} (at : ℕ) (l vs : List A) (k : ℕ) → length vs ≡ k → at + k ≤ length l → put_mid at k l vs ≡ sets l at vs
+mid_stored at l vs k e h =
+    rw (drop-drop k at l, ← e) (sym (sets-eq vs l at (omega arith) ∙ append_assoc (take at l) vs (drop (at + length vs) l)))
 
 -- ---- a record, field after field: o counts from its first byte
 abbrev pub stored : List ℕ → ℕ → ℕ → List ℕ → List ℕ → List ℕ

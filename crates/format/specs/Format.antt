@@ -8,7 +8,8 @@ use Rattle.plan.specs.declared.Kind.{Kind}
 use Rattle.plan.specs.declared.Kind.TheVariants.{Plain, Held}
 use Rattle.plan.specs.declared.Band.{Band}
 use Rattle.plan.specs.declared.Span.{Span}
-use Rattle.plan.specs.declared.PowerSpan.{PowerSpan}
+use Rattle.plan.specs.declared.Day.{Day}
+use Rattle.plan.specs.declared.Power.{Power}
 use Rattle.plan.specs.declared.Sense.{Sense}
 use Rattle.plan.specs.declared.Sense.TheVariants.{AtMost, AtLeast}
 use Rattle.plan.specs.Days.{day}
@@ -124,10 +125,10 @@ task_numbers t =
     ∷ unsigned_of t.height.low.0 ∷ unsigned_of t.height.high.0 ∷ []
 
 -- the range whose low and high are two numbers
-abbrev pub days_from : ℕ → ℕ → Span
+abbrev pub days_from : ℕ → ℕ → Span Day
 days_from x y = record { low = day (signed_of x); high = day (signed_of y) }
 
-abbrev pub powers_from : ℕ → ℕ → PowerSpan
+abbrev pub powers_from : ℕ → ℕ → Span Power
 powers_from x y = record { low = power (signed_of x); high = power (signed_of y) }
 
 unfoldable pub task_from : List ℕ → Task

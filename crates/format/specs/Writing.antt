@@ -1,5 +1,5 @@
 -- What is written: "One PL, all RS, all TK, nothing more", and the bands "after all RS and before TK"; and what the writing call answers and leaves.
-use Rattle.std.specs.Prelude.{◌≡◌, List, [], ◌∷◌, ◌++◌, ℕ, ◌+◌, ◌<◌, ◌^◌, ltb, length, drop}
+use Rattle.std.specs.Prelude.{◌≡◌, List, [], ◌∷◌, ◌++◌, Result, Ok, Err, ℕ, ◌+◌, ◌<◌, ◌^◌, ltb, length, drop}
 use Rattle.std.proofs.lemmas.List.Edits.{sets}
 use Rattle.std.specs.Int.{w32}
 use Rattle.std.proofs.Common.{SFits}
@@ -8,9 +8,9 @@ use Rattle.integers.specs.Lists.{Each}
 use Rattle.plan.specs.declared.Task.{Task}
 use Rattle.plan.specs.declared.Resource.{Resource}
 use Rattle.plan.specs.declared.Band.{Band}
-use Rattle.plan.specs.declared.Checked.{Checked}
+use Rattle.plan.specs.declared.Refusal.{Refusal}
 use Rattle.plan.specs.declared.Refusal.TheVariants.{BufferShort}
-use Rattle.plan.specs.Refusals.{Told, told, told_refusal}
+use Rattle.plan.specs.Refusals.{Told, told, told_refusal, Checked, accepted}
 use Rattle.plan.specs.Days.{days_of}
 use Rattle.plan.specs.Powers.{powers_of}
 use Rattle.plan.specs.Tasks.{most_resources}
@@ -18,16 +18,18 @@ use Rattle.rules.specs.Frame.{Frame, resource_count}
 use Rattle.rules.specs.Calls.{or_else, refuse_if, check}
 use Rattle.format.specs.declared.Mark.TheVariants.{PL}
 use Rattle.format.specs.declared.Header.{Header}
-use Rattle.format.specs.declared.WriteAnswer.{WriteAnswer}
-use Rattle.format.specs.declared.WriteAnswer.TheVariants.{Written, Refused}
 use Rattle.format.specs.Numbers.{bytes_of, unsigned_of}
-use Rattle.format.specs.Format.{Layout, resources, bands, tasks, record_bytes, header_numbers, sense_number}
+use Rattle.format.specs.Format.{Layout, resources, bands, tasks, size, record_bytes, header_numbers, sense_number}
 
 -- the records of a list, one after another
 module _ {A : Type 0} (l : Layout A) where
   unfoldable pub records_bytes : List A → List ℕ
   records_bytes [] = []
   records_bytes (x ∷ xs) = record_bytes (l.mark x) (l.numbers x) ++ records_bytes xs
+
+  -- each is as long as the record of the mark that is due
+  abbrev pub Even : Type 0
+  Even = (x : A) → length (record_bytes (l.mark x) (l.numbers x)) ≡ size l.due
 
 -- what a plan's PL record holds
 unfoldable pub header_of : Frame → ℕ → Header
@@ -55,14 +57,18 @@ pub record TaskSmall (t : Task) : Type 0 where
 abbrev pub Identified : Resource → Type 0
 Identified q = SFits w32 q.id
 
+-- "limit from -1,000,000 to 1,000,000": four bytes hold it
+abbrev pub Limited : Resource → Type 0
+Limited q = SFits w32 q.limit.0
+
 -- a plan that can be written: 32-bit identifiers, which every lent list of resources has, and it passes the checks
 pub record Good (f : Frame) (ts : List Task) : Type 0 where
   pub identifiers : Each Identified f.resources
-  pub passes : check f ts ≡ Checked.Accepted
+  pub passes : check f ts ≡ accepted
 
 pub record ResourceSmall (q : Resource) : Type 0 where
   pub id : Identified q
-  pub limit : SFits w32 q.limit.0
+  pub limit : Limited q
 
 -- what two bytes hold
 abbrev pub two_bytes : ℕ
@@ -78,14 +84,18 @@ abbrev pub range_stored : List ℕ → ℕ → Range → List ℕ
 range_stored bs at s = sets (sets bs at (bytes_of 4 (unsigned_of s.low))) (at + 4) (bytes_of 4 (unsigned_of s.high))
 
 -- ---- the writing call
+-- how many bytes it wrote, or one refusal
+abbrev pub WriteAnswer : Type 0
+WriteAnswer = Result ℕ Refusal
+
 -- the first places hold xs, later ones stay
 abbrev pub laid {ℓ} : {A : Type ℓ} → List A → List A → List A
 laid xs ds = xs ++ drop (length xs) ds
 
 -- the page's number and values of its answer: 0 with the file's length, or the refusal's number with its place
 abbrev pub told_write : WriteAnswer → Told
-told_write (Written n) = told 0 (n ∷ [])
-told_write (Refused f) = told_refusal f
+told_write (Ok n) = told 0 (n ∷ [])
+told_write (Err f) = told_refusal f
 
 -- the answer, so told, and the buffer's later contents
 pub record WriteResult : Type 0 where
@@ -96,8 +106,8 @@ abbrev pub write_result : WriteAnswer → List ℕ → WriteResult
 write_result r out = record { answer = told_write r; buffer = out }
 
 abbrev pub written_unless : Checked → List ℕ → List ℕ → WriteResult
-written_unless Checked.Accepted file out = write_result (Written (length file)) (laid file out)
-written_unless (Checked.Refused f) file out = write_result (Refused f) out
+written_unless (Ok _) file out = write_result (Ok (length file)) (laid file out)
+written_unless (Err f) file out = write_result (Err f) out
 
 -- 10: "output buffer shorter than the file", of such lengths
 unfoldable pub room_for : ℕ → ℕ → Checked

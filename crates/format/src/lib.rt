@@ -1,16 +1,18 @@
 // The plan file's format: its marks, records and fields, what reading and writing answer, and the laws of what is written and read.
 #![tactic(auto)]
 
+ghost use Rattle.std.specs.Prelude.{◌≡◌};
 ghost use Rattle.format.specs.Numbers.{Byte};
+ghost use Rattle.format.specs.Format.{mark, in_place_of, kind_mark, kind_from};
 ghost use Rattle.format.specs.Writing.{Identified};
 
 pub mod fields;
 pub mod table;
 
-use plan::{Refusal, Resource, Sense};
+use plan::{Kind, Resource, Sense};
 
 // The five marks, in a file's order; "a held resource has mark RH in place of RS".
-#[derive(Clone, Copy)]
+#[derive(Clone, Copy, PartialEq, Eq)]
 pub enum Mark {
     PL,
     RS,
@@ -19,40 +21,69 @@ pub enum Mark {
     TK,
 }
 
+impl Mark {
+    // "Each record begins with two mark bytes (ASCII)."
+    pub fn bytes(self) -> [u8; table::MARK_SIZE]
+        ensures { result ≡ mark self }
+    {
+        match self {
+            Mark::PL => *b"PL",
+            Mark::RS => *b"RS",
+            Mark::RH => *b"RH",
+            Mark::LB => *b"LB",
+            Mark::TK => *b"TK",
+        }
+    }
+
+    // The mark that may stand where this one is due.
+    pub fn in_place(self) -> Mark
+        ensures { result ≡ in_place_of self }
+    {
+        match self {
+            Mark::RS => Mark::RH,
+            mark => mark,
+        }
+    }
+}
+
+// The mark of a resource of such a kind, and the kind that a mark tells.
+impl From<Kind> for Mark {
+    ghost from_gives = { λ k r. r ≡ kind_mark k };
+
+    fn from(kind: Kind) -> Mark {
+        match kind {
+            Kind::Plain => Mark::RS,
+            Kind::Held => Mark::RH,
+        }
+    }
+}
+
+impl From<Mark> for Kind {
+    ghost from_gives = { λ m r. r ≡ kind_from m };
+
+    fn from(mark: Mark) -> Kind {
+        match mark {
+            Mark::RH => Kind::Held,
+            _ => Kind::Plain,
+        }
+    }
+}
+
 // What a PL record holds: the sense byte and the two counts.
-#[derive(Clone, Copy)]
+#[derive(Clone, Copy, PartialEq, Eq)]
 pub struct Header {
     pub sense: u8,
     pub resources: usize,
     pub tasks: usize,
 }
 
-// What reading a PL record answers: what it holds, or one refusal.
-#[derive(Clone, Copy)]
-pub enum HeaderAnswer {
-    Counts(Header),
-    Refused(Refusal),
-}
-
-// What reading the run of bands answers: how many there are, or one refusal.
-#[derive(Clone, Copy)]
-pub enum Run {
-    Through(usize),
-    Refused(Refusal),
-}
-
-// What the reader answers: the sense and how many resources, bands and tasks there are, or one refusal.
-#[derive(Clone, Copy)]
-pub enum ReadAnswer {
-    Plan(Sense, usize, usize, usize),
-    Refused(Refusal),
-}
-
-// What the writer answers: how many bytes it wrote, or one refusal.
-#[derive(Clone, Copy)]
-pub enum WriteAnswer {
-    Written(usize),
-    Refused(Refusal),
+// What reading a plan answers: the sense and how many resources, bands and tasks there are.
+#[derive(Clone, Copy, PartialEq, Eq)]
+pub struct Found {
+    pub sense: Sense,
+    pub resources: usize,
+    pub bands: usize,
+    pub tasks: usize,
 }
 
 // What the round trips ask of each resource of a lent list and of each byte of a lent file, every value of the type has: these two stand for

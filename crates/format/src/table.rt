@@ -1,9 +1,8 @@
 // The records of the page's table: their marks, where their fields stand, their sizes, and the length of a file of so many.
-ghost use Rattle.std.specs.Prelude.{◌≡◌, ◌<◌, ◌^◌, get_or};
-ghost use Rattle.format.specs.Format.{mark, kind_mark, kind_from, in_place_of, sense_number, sense_from, bands_from, tasks_from, file_length, longest_file};
+ghost use Rattle.std.specs.Prelude.{◌≡◌, ◌<◌, ◌^◌};
+ghost use Rattle.format.specs.Format.{sense_number, sense_from, bands_from, tasks_from, file_length, longest_file};
 
-use crate::Mark;
-use plan::{Kind, MOST_BANDS, MOST_RESOURCES, MOST_TASKS, Sense};
+use plan::{MOST_BANDS, MOST_RESOURCES, MOST_TASKS, Sense};
 
 // "Each record begins with two mark bytes." Places count from the first of them, and each field starts where the one before it ends.
 pub const MARK_SIZE: usize = 2;
@@ -52,66 +51,6 @@ pub const LONGEST_FILE: usize = PL_SIZE
     + MOST_BANDS * LB_SIZE
     + MOST_TASKS * TK_SIZE;
 
-// A mark's two bytes.
-pub fn first_byte(k: Mark) -> u8
-    ensures { result ≡ get_or (mark k) 0 0 }
-{
-    match k {
-        Mark::PL => b'P',
-        Mark::RS => b'R',
-        Mark::RH => b'R',
-        Mark::LB => b'L',
-        Mark::TK => b'T',
-    }
-}
-
-pub fn second_byte(k: Mark) -> u8
-    ensures { result ≡ get_or (mark k) 1 0 }
-{
-    match k {
-        Mark::PL => b'L',
-        Mark::RS => b'S',
-        Mark::RH => b'H',
-        Mark::LB => b'B',
-        Mark::TK => b'K',
-    }
-}
-
-// "In a file a held resource has mark RH in place of RS": the mark of a resource of such a kind, the kind that a mark tells, and the mark that
-// may stand where one is due.
-pub fn kind_mark(kind: Kind) -> Mark
-    ensures { result ≡ kind_mark kind }
-{
-    match kind {
-        Kind::Plain => Mark::RS,
-        Kind::Held => Mark::RH,
-    }
-}
-
-pub fn kind_from(k: Mark) -> Kind
-    ensures { result ≡ kind_from k }
-{
-    match k {
-        Mark::PL => Kind::Plain,
-        Mark::RS => Kind::Plain,
-        Mark::RH => Kind::Held,
-        Mark::LB => Kind::Plain,
-        Mark::TK => Kind::Plain,
-    }
-}
-
-pub fn in_place_of(due: Mark) -> Mark
-    ensures { result ≡ in_place_of due }
-{
-    match due {
-        Mark::PL => Mark::PL,
-        Mark::RS => Mark::RH,
-        Mark::RH => Mark::RH,
-        Mark::LB => Mark::LB,
-        Mark::TK => Mark::TK,
-    }
-}
-
 // Where the bands start behind so many resources.
 pub fn bands_from(resources: usize) -> usize
     requires { bands_from resources < 2 ^ 64 }
@@ -141,18 +80,14 @@ pub fn file_length(resources: usize, bands: usize, tasks: usize) -> usize
 pub fn sense_number(sense: Sense) -> u8
     ensures { result ≡ sense_number sense }
 {
-    match sense {
-        Sense::AtMost => 0,
-        Sense::AtLeast => 1,
-    }
+    sense as u8
 }
 
 pub fn sense_from(b: u8) -> Sense
     ensures { result ≡ sense_from b }
 {
-    if b == 0 {
-        Sense::AtMost
-    } else {
-        Sense::AtLeast
+    match b {
+        0 => Sense::AtMost,
+        _ => Sense::AtLeast,
     }
 }

@@ -16,6 +16,7 @@ use Rattle.integers.proofs.Hull.{within_in}
 use Rattle.integers.proofs.Sums.{ones_least}
 use Rattle.plan.specs.declared.Kind.{Kind}
 use Rattle.plan.specs.declared.Kind.TheVariants.{Plain, Held}
+use Rattle.plan.specs.declared.Day.{Day}
 use Rattle.plan.specs.declared.Span.{Span}
 use Rattle.plan.specs.declared.Task.{Task}
 use Rattle.plan.specs.Tasks.{Bounded}
@@ -34,7 +35,7 @@ use Rattle.held.specs.Held.{no_span, span_over, span_change, span_keys, held_key
 use Rattle.held.proofs.Spans.{span_days, span_bounded}
 
 module _ (r : ℕ) (ts : List Task) (bs : Each Bounded ts) where
-  abbrev span : Span
+  abbrev span : Span Day
   span = span_over r no_span ts
 
   abbrev holds_day : ℤ → Bool

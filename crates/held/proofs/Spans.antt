@@ -16,6 +16,7 @@ use Rattle.integers.proofs.Z.{z, lt_z_out, maxz, minz}
 use Rattle.integers.proofs.Tests.{by_cases, clash, if-case, same_test, and_first, and_second, and_in, or_second, or_left, or_assoc}
 use Rattle.integers.proofs.Lists.{any_in, each_in}
 use Rattle.integers.proofs.Least.{smaller_at, larger_at}
+use Rattle.plan.specs.declared.Day.{Day}
 use Rattle.plan.specs.declared.Span.{Span}
 use Rattle.plan.specs.declared.Task.{Task}
 use Rattle.plan.specs.Days.{day_low, day_high, day_ends}
@@ -26,24 +27,24 @@ use Rattle.rules.proofs.Counted.{begun_by_lem, ends_after_lem}
 use Rattle.held.specs.Held.{no_span, with_only, span_over}
 
 -- a span whose ends are days
-pub record SpanBounded (e : Span) : Type 0 where
+pub record SpanBounded (e : Span Day) : Type 0 where
   pub low : Within day_ends e.low.0
   pub high : Within day_ends e.high.0
 
 module _ (r : ℕ) (i : ℤ) where
-  first_with : (e : Span) (t : Task) → le_z (with_only r e t).low.0 i ≡ or (le_z e.low.0 i) (begun r i t)
+  first_with : (e : Span Day) (t : Task) → le_z (with_only r e t).low.0 i ≡ or (le_z e.low.0 i) (begun r i t)
   unfolding with_only begun
   first_with e t =
       by_cases (only t.set r) (λ o. rw o (smaller_at e.low.0 t.origin.high.0 i))
       (λ o. by_cases (le_z e.low.0 i) (λ l. rw (o, l)) (λ l. rw (o, l)))
 
-  last_with : (e : Span) (t : Task) → lt_z i (with_only r e t).high.0 ≡ or (lt_z i e.high.0) (unended r i t)
+  last_with : (e : Span Day) (t : Task) → lt_z i (with_only r e t).high.0 ≡ or (lt_z i e.high.0) (unended r i t)
   unfolding with_only unended
   last_with e t =
       by_cases (only t.set r) (λ o. rw o (larger_at e.high.0 t.end.low.0 i))
       (λ o. by_cases (lt_z i e.high.0) (λ l. rw (o, l)) (λ l. rw (o, l)))
 
-  first_over : (e : Span) (ts : List Task) → le_z (span_over r e ts).low.0 i ≡ or (le_z e.low.0 i) (any (begun r i) ts)
+  first_over : (e : Span Day) (ts : List Task) → le_z (span_over r e ts).low.0 i ≡ or (le_z e.low.0 i) (any (begun r i) ts)
   unfolding span_over any
   first_over e [] = by_cases (le_z e.low.0 i) (λ l. rw l) (λ l. rw l)
   first_over e (t ∷ ts) =
@@ -51,7 +52,7 @@ module _ (r : ℕ) (i : ℤ) where
       ∙ ap (λ b. or b (any (begun r i) ts)) (first_with e t)
       ∙ or_assoc (le_z e.low.0 i) (begun r i t) (any (begun r i) ts)
 
-  last_over : (e : Span) (ts : List Task) → lt_z i (span_over r e ts).high.0 ≡ or (lt_z i e.high.0) (any (unended r i) ts)
+  last_over : (e : Span Day) (ts : List Task) → lt_z i (span_over r e ts).high.0 ≡ or (lt_z i e.high.0) (any (unended r i) ts)
   unfolding span_over any
   last_over e [] = by_cases (lt_z i e.high.0) (λ l. rw l) (λ l. rw l)
   last_over e (t ∷ ts) =
@@ -99,7 +100,7 @@ module _ (r : ℕ) (i : ℤ) where
         (or_second (lt_z i day_low) (any (unended r i) ts) (and_second (any (begun r i) ts) (any (unended r i) ts) h)))
 
 -- its ends are days
-span_kept : (r : ℕ) (e : Span) {ts : List Task} → Within day_ends e.low.0 → Within day_ends e.high.0 → Each Bounded ts → SpanBounded (span_over r e ts)
+span_kept : (r : ℕ) (e : Span Day) {ts : List Task} → Within day_ends e.low.0 → Within day_ends e.high.0 → Each Bounded ts → SpanBounded (span_over r e ts)
 unfolding span_over with_only
 span_kept r e a b nothing = record { low = a; high = b }
 span_kept r e a b (also {x = t} {xs = ts} h bs) =
@@ -112,10 +113,10 @@ pub span_bounded : (r : ℕ) (ts : List Task) → Each Bounded ts → SpanBounde
 span_bounded r ts bs = span_kept r no_span (omega z) (omega z) bs
 
 -- ---- the span, one task after another
-pub span_more : (r : ℕ) (d : Task) (e : Span) (i : ℕ) (ts : List Task) → i < length ts → span_over r (with_only r e (get_or ts i d)) (drop (i + 1) ts) ≡ span_over r e (drop i ts)
+pub span_more : (r : ℕ) (d : Task) (e : Span Day) (i : ℕ) (ts : List Task) → i < length ts → span_over r (with_only r e (get_or ts i d)) (drop (i + 1) ts) ≡ span_over r e (drop i ts)
 unfolding span_over
 span_more r d e i ts h = rw (add-one, drop-cons ts i d h)
 
-pub span_end : (r : ℕ) (e : Span) (i : ℕ) (ts : List Task) → length ts ≤ i → span_over r e (drop i ts) ≡ e
+pub span_end : (r : ℕ) (e : Span Day) (i : ℕ) (ts : List Task) → length ts ≤ i → span_over r e (drop i ts) ≡ e
 unfolding span_over
 span_end r e i ts h = rw (drop_of_length-le ts h)

@@ -7,91 +7,84 @@ ghost use Rattle.integers.specs.Lists.{Each};
 ghost use Rattle.plan.specs.Sets.{set_bits};
 ghost use Rattle.plan.specs.Tasks.{Bounded};
 ghost use Rattle.rules.specs.Frame.{is_held};
-ghost use Rattle.rows.specs.View.{tasks_of};
 ghost use Rattle.events.specs.Events.{ChangeFits};
 ghost use Rattle.events.specs.Laid.{Laid};
 ghost use Rattle.held.specs.Held.{no_span, with_only, span_over, span_change, span_keys, held_events, room_if, held_keys};
 
 use events::{Change, Count};
 use plan::{Day, Kind, Power, Span, Task};
-use rows::TaskRow;
 
 // The change and its opposite.
 pub const HELD_EVENTS: usize = 2;
 
 // the span with a task more, where that can stand nowhere else
-fn with_only(e: Span, t: Task, r: u64) -> Span
+#[tactic(auto, unfolding(crate::specs::Held::with_only))]
+fn with_only(e: Span<Day>, t: Task, r: u64) -> Span<Day>
     requires { r < set_bits }
     ensures { result ≡ with_only r e t }
 {
-    if plan::only_resource(t.set, r) {
-        let low = e.low;
-        let high = e.high;
-        return Span {
-            low: low.smaller(t.origin.high),
-            high: high.larger(t.end.low),
-        };
+    if !plan::only_resource(t.set, r) {
+        return e;
     }
-    e
+    Span {
+        low: e.low.min(t.origin.high),
+        high: e.high.max(t.end.low),
+    }
 }
 
 // From the least origin high to the greatest end low; of no task the ends of days the other way round, so that the first task sets both.
-fn span_of(s: &[TaskRow], r: u64) -> Span
+#[tactic(auto, using(crate::proofs::Spans::span_more, crate::proofs::Spans::span_end), unfolding(plan::specs::Tasks::no_task))]
+fn span_of(tasks: &[Task], r: u64) -> Span<Day>
     requires { r < set_bits }
-    ensures { result ≡ span_over r no_span (tasks_of s.now) }
+    ensures { result ≡ span_over r no_span tasks.now }
 {
     let mut e = Span {
         low: Day::HIGH,
         high: Day::LOW,
     };
-    let mut i: usize = 0;
-    while i < s.len() {
-        e = with_only(e, rows::task_at(s, i), r);
-        i += 1;
+    for t in tasks {
+        e = with_only(e, *t, r);
     }
     e
 }
 
 // No power, and each day of the span counts.
-fn span_change(e: Span) -> Change
+fn span_change(e: Span<Day>) -> Change
     ensures { result ≡ span_change e }
 {
-    let from = e.low;
-    let to = e.high;
     Change {
-        from,
-        to,
+        from: e.low,
+        to: e.high,
         power: Power(0),
         sure: Count(1),
     }
 }
 
 // its keys behind the first n, where it has a day
-fn put_span(keys: &mut [u64], n: usize, e: Span) -> usize
+#[tactic(auto, using(events::proofs::Laid::laid_none), unfolding(crate::specs::Held::span_keys, events::specs::Events::change_keys))]
+fn put_span(keys: &mut [u64], n: usize, e: Span<Day>) -> usize
     requires enough { n + held_events ≤ length keys.old }
     requires change_fits { ChangeFits (span_change e) }
     ensures laid { Laid keys.old keys.new n result (span_keys e) }
     ensures upper_bound { result ≤ n + held_events }
 {
-    let low = e.low;
-    if low.before(e.high) {
-        return events::put_change(keys, n, span_change(e));
+    if e.low < e.high {
+        events::put_change(keys, n, span_change(e))
+    } else {
+        n
     }
-    n
 }
 
 // The keys of a held resource's span behind the first n; a plain one has none.
-pub fn put_held(s: &[TaskRow], r: u64, kind: Kind, keys: &mut [u64], n: usize) -> usize
+#[tactic(auto, using(events::proofs::Laid::laid_none), unfolding(crate::specs::Held::held_keys))]
+pub fn put_held(tasks: &[Task], r: u64, kind: Kind, keys: &mut [u64], n: usize) -> usize
     requires enough { (r < set_bits) × (n + room_if (is_held kind) ≤ length keys.old) }
-    requires each { Each Bounded (tasks_of s.now) }
-    ensures laid { Laid keys.old keys.new n result (held_keys r kind (tasks_of s.now)) }
+    requires each { Each Bounded tasks.now }
+    ensures laid { Laid keys.old keys.new n result (held_keys r kind tasks.now) }
     ensures upper_bound { result ≤ n + room_if (is_held kind) }
 {
     match kind {
         Kind::Plain => n,
-        Kind::Held => {
-            let e = span_of(s, r);
-            put_span(keys, n, e)
-        }
+        Kind::Held => put_span(keys, n, span_of(tasks, r)),
     }
 }

@@ -1,4 +1,6 @@
 -- The mask stays right: a step changes only tasks that could stand where it is taken, and only the places noted as touched see the change.
+use Rattle.std.specs.Prelude.{Ok, Option, Some, None}
+use Rattle.plan.specs.Refusals.{Narrowed, accepted}
 use mathlib.Core.Path.{◌≡◌, refl, sym, ap, ap₂, ◌∙◌, subst}
 use mathlib.Core.Bool.{Bool, true, false, not}
 use mathlib.Core.List.{List, ◌∷◌}
@@ -10,14 +12,11 @@ use Rattle.integers.specs.Tests.{and, or, any}
 use Rattle.integers.specs.Lists.Each.{nothing, also}
 use Rattle.integers.proofs.Tests.{clash, by_cases, false_in, same_test, and_first, and_second, and_in, or_none, not_out}
 use Rattle.plan.specs.declared.Task.{Task}
-use Rattle.plan.specs.declared.Narrowed.{Narrowed}
-use Rattle.plan.specs.declared.Narrowed.TheVariants.{Kept}
 use Rattle.plan.specs.declared.Sense.TheVariants.{AtLeast}
-use Rattle.plan.specs.declared.Checked.TheVariants.{Accepted}
 use Rattle.plan.specs.Sets.{has, only, at_most_one, without, union, differing}
 use Rattle.plan.proofs.Sets.{without_keeps, eqb_true, eqb_in, only_is, only_in, alone_only, at_most_one_only, same_set, union_has, differing_has}
 use Rattle.rules.specs.Frame.{Frame, resource_count, floor_at, Floor}
-use Rattle.rules.specs.Balance.{Outcome, each, balance}
+use Rattle.rules.specs.Balance.{each, balance}
 use Rattle.rules.specs.Balance.Outcome.{Plan}
 use Rattle.rules.specs.Step.{shortfall, narrowed, listed_days, at_least_step, sense_step, resource_step}
 use Rattle.rules.specs.Settle.{same_ranges, same_task, same_tasks}
@@ -33,10 +32,9 @@ use Rattle.rules.proofs.Elsewhere.{Alike, Beside, if_plan, step_elsewhere}
 use Rattle.rules.proofs.Elsewhere.Beside.{no_tasks, same_task_lem, other_task, other_set}
 use Rattle.rules.proofs.Checks.{accepts, check_live}
 use Rattle.rules.proofs.Keeps.{Sound, balance_sound, step_sound}
-use Rattle.rows.specs.declared.Stepped.{Stepped}
-use Rattle.rows.specs.Changes.{plan_if, outcome_of, seen_by, touched_by, Notes}
-use Rattle.rows.proofs.Changes.{touched_tells}
-use Rattle.rows.proofs.Walk.{first_kept}
+use Rattle.changes.specs.Changes.{outcome_of, seen_by, touched_by, Notes}
+use Rattle.changes.proofs.Changes.{touched_tells}
+use Rattle.changes.proofs.Walk.{first_kept}
 use Rattle.idle.specs.declared.Passed.{Passed}
 use Rattle.idle.specs.Mask.{Idle, Noted, Took}
 
@@ -118,8 +116,8 @@ same_again : (t u : Task) → same_ranges t u ≡ true → u.set ≡ t.set → s
 unfolding same_task
 same_again t u e s = and_in (eqb t.set u.set) (same_ranges t u) (eqb_in t.set u.set (sym s)) e
 
-untouched : (f : Task → Narrowed) (r : ℕ) → ((t : Task) → has t.set r ≡ false → Live t → f t ≡ Kept t)
-    → ((t u : Task) → f t ≡ Kept u → has u.set r ≡ true → only u.set r ≡ false → u.set ≡ t.set)
+untouched : (f : Task → Narrowed) (r : ℕ) → ((t : Task) → has t.set r ≡ false → Live t → f t ≡ Ok t)
+    → ((t u : Task) → f t ≡ Ok u → has u.set r ≡ true → only u.set r ≡ false → u.set ≡ t.set)
     → {ts us : List Task} → Subs us ts → Lives ts → each f ts ≡ Plan us → has (touched_by ts us) r ≡ false → us ≡ ts
 unfolding each touched_by
 untouched f r away stays no_subs nothing e h = refl
@@ -130,7 +128,7 @@ untouched f r away stays (more_subs {u} {t} {us} {ts} s subs) (also l k) e h =
     (λ q. same q (unseen_is r t u s.set (union_none (seen_by t u) (touched_by ts us) r (rw q at h)).0) p.0))
     (untouched f r away stays subs k p.1 (by_cases (same_task t u) (λ q. rw q at h) (λ q. (union_none (seen_by t u) (touched_by ts us) r (rw q at h)).1)))
   where
-    same : same_task t u ≡ false → Unseen r t u → f t ≡ Kept u → u ≡ t
+    same : same_task t u ≡ false → Unseen r t u → f t ≡ Ok u → u ≡ t
     same q (not_there a b) p = cc (away t a l, p)
     same q (lost_others e a) p = clash (same_task t u) (same_again t u e (stays t u p a.has a.shares)) q
 
@@ -140,7 +138,7 @@ step_untouched r limit ts us s l e h =
     untouched (narrowed r limit ts (listed_days ts)) r (λ t a v. narrowed_away r t a limit ts (listed_days ts) v) stays s l
     (if_plan (any (shortfall r limit ts) (listed_days ts)) (each (narrowed r limit ts (listed_days ts)) ts) us e).1 h
   where
-    stays : (t u : Task) → narrowed r limit ts (listed_days ts) t ≡ Kept u → has u.set r ≡ true → only u.set r ≡ false → u.set ≡ t.set
+    stays : (t u : Task) → narrowed r limit ts (listed_days ts) t ≡ Ok u → has u.set r ≡ true → only u.set r ≡ false → u.set ≡ t.set
     stays t u p a o =
         let k = kept_set_is r limit ts (listed_days ts) t u p in
         k ∙ set_stayed r limit ts (listed_days ts) t (subst (λ (x : ℕ). has x r ≡ true) k a) (subst (λ (x : ℕ). only x r ≡ false) k o)
@@ -151,7 +149,7 @@ unfolding resource_step sense_step
 at_least_step_lem f least r ts = rw least
 
 -- ---- the mask after a change
-module _ (f : Frame) (least : f.sense ≡ AtLeast) (ts us : List Task) (a : check f ts ≡ Accepted) (k : Keeps f ts us) where
+module _ (f : Frame) (least : f.sense ≡ AtLeast) (ts us : List Task) (a : check f ts ≡ accepted) (k : Keeps f ts us) where
   idle_after : (mask : ℕ) → Idle mask f ts → (r : ℕ) → r < resource_count f → has mask r ≡ false → has (touched_by ts us) r ≡ false → resource_step f r us ≡ Plan us
   idle_after mask idle r h c t =
       let seen = beside_of r k.inside (check_live f us k.accepted) t in
@@ -187,33 +185,28 @@ module _ (f : Frame) (least : f.sense ≡ AtLeast) (ts us : List Task) (a : chec
       }
 
 -- ---- what is noted of steps that were taken
-module _ (f : Frame) (least : f.sense ≡ AtLeast) (ts us : List Task) (a : check f ts ≡ Accepted) (o : Stepped) (n : Notes o ts us) where
-  left : (x : Outcome) → outcome_of o us ≡ x → o.ok ≡ true → x ≡ Plan us
-  left x e ok = sym e ∙ ap (λ (b : Bool). plan_if b us) ok
+-- after so many touched places
+abbrev pub after : Bool → ℕ → ℕ → Passed
+after before mask touched = record { changed = or before (not (eqb touched 0)); mask = union mask touched }
 
-  abbrev after : Bool → ℕ → Passed
-  after before mask = record { ok = o.ok; changed = or before (not (eqb o.touched 0)); mask = union mask o.touched }
+-- and where no plan may be left
+abbrev pub after_step : Bool → ℕ → Option ℕ → Option Passed
+after_step before mask None = None
+after_step before mask (Some touched) = Some (after before mask touched)
 
-  pub balance_took : (mask : ℕ) → Idle mask f ts → outcome_of o us ≡ balance ts → Took balance f false ts (after false mask) us
-  balance_took mask idle e =
-      record {
-        outcome = e;
-        noted =
-            λ ok.
-            let k : Keeps f ts us = subst (Sound f ts) (left (balance ts) e ok) (balance_sound f ts a) in
-            rw (n ok) (balance_noted f least ts us a k mask false idle);
-      }
+module _ (f : Frame) (least : f.sense ≡ AtLeast) (ts us : List Task) (a : check f ts ≡ accepted) where
+  pub balance_took : (o : Option ℕ) → Notes o ts us → (mask : ℕ) → Idle mask f ts → outcome_of o us ≡ balance ts → Took balance f false ts (after_step false mask o) us
+  balance_took None n mask idle e = record { outcome = e; noted = tt }
+  balance_took (Some touched) n mask idle e =
+      let k : Keeps f ts us = subst (Sound f ts) (sym e) (balance_sound f ts a) in
+      record { outcome = e; noted = rw n (balance_noted f least ts us a k mask false idle) }
 
-  pub step_took : (r : ℕ) → r < resource_count f → (before : Bool) (mask : ℕ) → Idle mask f ts → outcome_of o us ≡ resource_step f r ts → Took (resource_step f r) f before ts (after before (without mask r)) us
-  step_took r l before mask idle e =
-      record {
-        outcome = e;
-        noted =
-            λ ok.
-            let s = left (resource_step f r ts) e ok in
-            let k : Keeps f ts us = subst (Sound f ts) s (step_sound f r l ts a) in
-            rw (n ok) (step_noted f least ts us a k mask before r s idle);
-      }
+  pub step_took : (o : Option ℕ) → Notes o ts us → (r : ℕ) → r < resource_count f → (before : Bool) (mask : ℕ) → Idle mask f ts → outcome_of o us ≡ resource_step f r ts
+      → Took (resource_step f r) f before ts (after_step before (without mask r) o) us
+  step_took None n r l before mask idle e = record { outcome = e; noted = tt }
+  step_took (Some touched) n r l before mask idle e =
+      let k : Keeps f ts us = subst (Sound f ts) (sym e) (step_sound f r l ts a) in
+      record { outcome = e; noted = rw n (step_noted f least ts us a k mask before r (sym e) idle) }
 
 -- ---- a step that is not due
 or_not : (b : Bool) → b ≡ or b (not true)
@@ -223,9 +216,9 @@ or_not false = refl
 pub unchanged_noted : (f : Frame) (ts : List Task) (mask : ℕ) (before : Bool) → Idle mask f ts → Noted f ts ts before before mask
 unchanged_noted f ts mask before idle = record { idle = idle; changed = rw (same_tasks_self ts) (or_not before) }
 
-pub rest_took : (f : Frame) (ts : List Task) (p : Passed) → p.ok ≡ true → Idle p.mask f ts → (r : ℕ) → r < resource_count f → has p.mask r ≡ false → Took (resource_step f r) f p.changed ts p ts
-rest_took f ts p ok idle r l clear =
-    record { outcome = rw ok (sym (idle r l clear)); noted = λ e. unchanged_noted f ts p.mask p.changed idle }
+pub rest_took : (f : Frame) (ts : List Task) (p : Passed) → Idle p.mask f ts → (r : ℕ) → r < resource_count f → has p.mask r ≡ false
+    → Took (resource_step f r) f p.changed ts (Some p) ts
+rest_took f ts p idle r l clear = record { outcome = sym (idle r l clear); noted = unchanged_noted f ts p.mask p.changed idle }
 
 -- ---- with every bit set, nothing is claimed
 ones : (m : ℕ) → (2 ^ suc m - 1) / 2 ≡ 2 ^ m - 1
@@ -241,5 +234,5 @@ has_ones (suc m) zero h = eqb_in ((2 ^ suc m - 1) % 2) 1 (omega (arith, two-pow-
     pow_some (suc m) = let q = pow_some m in omega (arith, two-pow-succ m)
 has_ones (suc m) (suc k) h = rw (ones m) (has_ones m k (le_of_suc-le-suc h))
 
-pub all_idle : (f : Frame) (ts : List Task) → check f ts ≡ Accepted → Idle (2 ^ 64 - 1) f ts
+pub all_idle : (f : Frame) (ts : List Task) → check f ts ≡ accepted → Idle (2 ^ 64 - 1) f ts
 all_idle f ts a r h c = clash (has (2 ^ 64 - 1) r) (has_ones 64 r (let m = (accepts f ts a).most in omega arith)) c

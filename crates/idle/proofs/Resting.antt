@@ -1,5 +1,7 @@
 -- Before the first pass: a resource on which no lively task may stand. No task has only it, so no day counts, none falls short, is needed or raised. A bar
 -- shuts values out of no task there, because each has other resources, and takes none off, because none has a day on which it runs.
+use Rattle.std.specs.Prelude.{Ok}
+use Rattle.plan.specs.Refusals.{accepted}
 use mathlib.Core.Path.{◌≡◌, refl, ◌∙◌}
 use mathlib.Core.Bool.{true, false}
 use mathlib.Core.List.{List, [], ◌∷◌}
@@ -15,8 +17,6 @@ use Rattle.integers.proofs.Tests.{clash, by_cases, any_none}
 use Rattle.integers.proofs.Lists.{each_in}
 use Rattle.plan.specs.declared.Task.{Task}
 use Rattle.plan.specs.declared.Sense.TheVariants.{AtLeast}
-use Rattle.plan.specs.declared.Narrowed.TheVariants.{Kept}
-use Rattle.plan.specs.declared.Checked.TheVariants.{Accepted}
 use Rattle.plan.specs.Sets.{has, only, union}
 use Rattle.rules.specs.Frame.{Frame, floor_at, Floor}
 use Rattle.rules.specs.Balance.{each}
@@ -61,7 +61,7 @@ module _ (r : ℕ) (limit : Floor) where
     unfolding needed
     resting_unneeded t i = rw (resting_counts i all rest)
 
-    resting_kept : (t : Task) → (lively t ≡ true → has t.set r ≡ false) → Live t → narrowed r limit all (listed_days all) t ≡ Kept t
+    resting_kept : (t : Task) → (lively t ≡ true → has t.set r ≡ false) → Live t → narrowed r limit all (listed_days all) t ≡ Ok t
     resting_kept t h l =
         by_cases (lively t) (λ e. narrowed_away r t (h e) limit all (listed_days all) l)
         (λ e. narrowed_untouched r limit all (listed_days all) t (λ i. dull_untouched t e r limit all i (resting_unneeded t i)) l)
@@ -75,7 +75,7 @@ module _ (r : ℕ) (limit : Floor) where
     unfolding at_least_step
     resting_step l = rw resting_enough (resting_each rest l)
 
-pub lively_idle : (f : Frame) → f.sense ≡ AtLeast → (ts : List Task) → check f ts ≡ Accepted → Idle (lively_places 0 ts) f ts
+pub lively_idle : (f : Frame) → f.sense ≡ AtLeast → (ts : List Task) → check f ts ≡ accepted → Idle (lively_places 0 ts) f ts
 lively_idle f least ts a r h c = at_least_step_lem f least r ts ∙ resting_step r (floor_at f r) ts (resting_from r 0 ts c).1 (check_live f ts a)
 
 -- ---- the places, one task after another

@@ -1,5 +1,5 @@
 -- The mask: a bit for each resource whose step may still change something. A bit that is clear saves a step and changes no answer.
-use Rattle.std.specs.Prelude.{◌≡◌, Bool, true, false, not, List, [], ◌∷◌, ℕ, ◌<◌}
+use Rattle.std.specs.Prelude.{◌≡◌, Bool, false, not, List, [], ◌∷◌, ℕ, ◌<◌, Option, IfSome}
 use Rattle.integers.specs.Tests.{if, or}
 use Rattle.plan.specs.declared.Task.{Task}
 use Rattle.plan.specs.Sets.{has, union}
@@ -8,7 +8,7 @@ use Rattle.rules.specs.Balance.{Outcome}
 use Rattle.rules.specs.Balance.Outcome.{Plan}
 use Rattle.rules.specs.Step.{resource_step}
 use Rattle.rules.specs.Settle.{same_tasks}
-use Rattle.rows.specs.Changes.{plan_if}
+use Rattle.changes.specs.Changes.{outcome_of}
 use Rattle.idle.specs.declared.Passed.{Passed}
 use Rattle.idle.specs.Lively.{lively}
 
@@ -27,6 +27,6 @@ pub record Noted (f : Frame) (ts us : List Task) (before after : Bool) (mask : �
   pub changed : after ≡ or before (not (same_tasks ts us))
 
 -- some steps were taken on ts and left us: a plan or none, as the page has it; of a plan the mask is right, and what has changed so far is noted
-pub record Took (taken : List Task → Outcome) (f : Frame) (before : Bool) (ts : List Task) (p : Passed) (us : List Task) : Type 0 where
-  pub outcome : plan_if p.ok us ≡ taken ts
-  pub noted : p.ok ≡ true → Noted f ts us before p.changed p.mask
+pub record Took (taken : List Task → Outcome) (f : Frame) (before : Bool) (ts : List Task) (p : Option Passed) (us : List Task) : Type 0 where
+  pub outcome : outcome_of p us ≡ taken ts
+  pub noted : IfSome p (λ q. Noted f ts us before q.changed q.mask)

@@ -63,19 +63,6 @@ pub and_same : (a b c : Bool) → (a ≡ true → b ≡ c) → and a b ≡ and a
 and_same true b c f = f refl
 and_same false b c f = refl
 
--- for code: the first test's result x decides, and where it holds the second's result is the answer
-pub and_yes : {x a b r : Bool} → x ≡ a → x ≡ true → r ≡ b → r ≡ and a b
-and_yes {x} {a} {b} e h k = rw (sym e ∙ h) k
-
-pub and_no : {x a : Bool} (b : Bool) → x ≡ a → x ≡ false → x ≡ and a b
-and_no {x} {a} b e h = rw (sym e ∙ h) h
-
-pub or_yes : {x a : Bool} (b : Bool) → x ≡ a → x ≡ true → x ≡ or a b
-or_yes {x} {a} b e h = rw (sym e ∙ h) h
-
-pub or_no : {x a b r : Bool} → x ≡ a → x ≡ false → r ≡ b → r ≡ or a b
-or_no {x} {a} {b} e h k = rw (sym e ∙ h) k
-
 -- four tests joined, as of a task's four ranges
 pub record Four (a b c d : Bool) : Type 0 where
   pub first : a ≡ true

@@ -2,17 +2,14 @@
 use mathlib.Core.Path.{◌≡◌, sym, ap, ◌∙◌}
 use mathlib.Core.List.{List}
 use Prim.Native.Nat.{ℕ}
-use Rattle.plan.specs.declared.Answer.{Answer}
 use Rattle.plan.specs.declared.Task.{Task}
 use Rattle.plan.specs.declared.Resource.{Resource}
 use Rattle.plan.specs.declared.Band.{Band}
-use Rattle.plan.specs.Refusals.{told_answer}
+use Rattle.plan.specs.Refusals.{told_answer, Answer}
 use Rattle.plan.proofs.Refusals.{told_once}
 use Rattle.rules.specs.Calls.{ListResult, list_result}
-use Rattle.format.specs.declared.ReadAnswer.{ReadAnswer}
-use Rattle.format.specs.declared.WriteAnswer.{WriteAnswer}
-use Rattle.format.specs.Reading.{ReadResult, read_result}
-use Rattle.format.specs.Writing.{WriteResult, write_result}
+use Rattle.format.specs.Reading.{ReadAnswer, ReadResult, read_result}
+use Rattle.format.specs.Writing.{WriteAnswer, WriteResult, write_result}
 use Rattle.format.proofs.CallTrips.{write_told_once, read_told_once}
 
 -- two results that are one value agree in each part

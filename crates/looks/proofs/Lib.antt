@@ -1,1 +1,2 @@
--- Nothing but the functions' proofs.
+-- Laws of what is read of a file that is only looked at.
+pub mod Looked

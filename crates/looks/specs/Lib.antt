@@ -1,2 +1,2 @@
--- What is looked for in the tasks of a file.
+-- What is read of a file that is only looked at.
 pub mod Looked

@@ -1,9 +1,11 @@
--- What is looked for in the tasks of a file: the most passes, or nothing.
-use Rattle.std.specs.Prelude.{ℕ, Bool, true, false, List}
+-- What is read of a plan file that is only looked at: its tasks.
+use Rattle.std.specs.Prelude.{Ok, Err}
+use Rattle.std.specs.Prelude.{◌≡◌, Result, Ok, Err, ℕ, List, length, take}
+use Rattle.plan.specs.declared.Refusal.{Refusal}
 use Rattle.plan.specs.declared.Task.{Task}
-use Rattle.rules.specs.Settle.{most_passes}
-use Rattle.answers.specs.Files.{checked}
+use Rattle.format.specs.Reading.{Read}
 
-abbrev pub looked_for : Bool → List Task → ℕ
-looked_for true ts = most_passes ts
-looked_for false ts = checked ts
+-- how many tasks the plan has, which stand in the first places of a list; or the reader's refusal
+abbrev pub TasksRead : Read → Result ℕ Refusal → List Task → Type 0
+TasksRead (Read.Plan f ts) r us = (r ≡ Ok (length ts)) × (take (length ts) us ≡ ts)
+TasksRead (Read.Refuse e) r us = r ≡ Err e

@@ -15,7 +15,7 @@ use Rattle.integers.proofs.Hull.{left_is}
 use Rattle.integers.proofs.Lists.{Place, any_place}
 use Rattle.plan.specs.declared.Task.{Task}
 use Rattle.plan.specs.declared.Power.{Power}
-use Rattle.plan.specs.declared.PowerSpan.{PowerSpan}
+use Rattle.plan.specs.declared.Span.{Span}
 use Rattle.plan.specs.Powers.{powers_of}
 use Rattle.plan.specs.Sets.{only}
 use Rattle.rules.specs.Frame.{Floor}
@@ -146,7 +146,7 @@ module _ (r : ℕ) (limit : Floor) (ts : List Task) (t : Task) (ss : List Stretc
         (λ u w g. (lifted_low u w.least g, w.most))
 
   -- ---- THE PAGE'S HEIGHT
-  pub height_left : only t.set r ≡ true → (h : PowerSpan) → Lifted t ss h → left keeps (powers_of t.height) ≡ Some (powers_of h)
+  pub height_left : only t.set r ≡ true → (h : Span Power) → Lifted t ss h → left keeps (powers_of t.height) ≡ Some (powers_of h)
   height_left alone h l =
       let g : top ≡ h.high.0 = ap (λ (p : Power). p.0) (sym l.high) in
       by_cases (lt_z low top)

@@ -6,6 +6,7 @@ use Prim.Native.Nat.{ℕ}
 use lib.Dec.{eqb}
 use lib.IntN.{ℤ, pos, ◌+ℤ◌, ◌-ℤ◌}
 use lib.Signed.{lt_z}
+use Rattle.std.specs.Prelude.{Ok, Err}
 use Rattle.integers.specs.Tests.{if}
 use Rattle.integers.specs.Ends.{Within}
 use Rattle.integers.specs.Hull.{range, Left, left}
@@ -13,10 +14,10 @@ use Rattle.integers.specs.Hull.Left.{Some}
 use Rattle.integers.proofs.Z.{z, +z, -z, lt_z_out}
 use Rattle.integers.proofs.Tests.{clash, by_cases, if-case, and_first, and_second}
 use Rattle.plan.specs.declared.Task.{Task}
+use Rattle.plan.specs.declared.Day.{Day}
 use Rattle.plan.specs.declared.Span.{Span}
-use Rattle.plan.specs.declared.Narrowed.{Narrowed}
-use Rattle.plan.specs.declared.Narrowed.TheVariants.{Kept, RanOut}
 use Rattle.plan.specs.declared.Value.TheVariants.{Origin, Duration, End, Height, Set}
+use Rattle.plan.specs.Refusals.{Narrowed}
 use Rattle.plan.specs.Days.{days_of, span_of, empty_span}
 use Rattle.plan.specs.Powers.{powers_of, power_span_of}
 use Rattle.plan.specs.Tasks.{Bounded}
@@ -49,8 +50,8 @@ pieces lo ld le lh s =
     or_ran_out Duration ld λ d.
     or_ran_out End le λ e.
     or_ran_out Height lh λ h.
-    if (eqb s 0) (RanOut Set)
-    (Kept (record { set = s; origin = span_of o; duration = span_of d; end = span_of e; height = power_span_of h }))
+    if (eqb s 0) (Err Set)
+    (Ok (record { set = s; origin = span_of o; duration = span_of d; end = span_of e; height = power_span_of h }))
 
 together : (u : Task) → pieces (left_of u.origin) (left_of u.duration) (left_of u.end) (Some (powers_of u.height)) u.set ≡ finished u
 unfolding finished
@@ -74,7 +75,7 @@ module _ (r : ℕ) (limit : Floor) (ts : List Task) (t : Task) where
   narrowed_is u l = sym (rw (l.origin, l.duration, l.end, l.height, l.set) (together u))
 
 -- ---- needs change neither durations nor heights
-needs_duration : (r : ℕ) (s : Days) (t : Task) → (with_needs r s t).duration ≡ t.duration
+pub needs_duration : (r : ℕ) (s : Days) (t : Task) → (with_needs r s t).duration ≡ t.duration
 unfolding with_needs
 needs_duration r s t = if-case (λ (u : Task). u.duration ≡ t.duration) (lt_z s.from.0 t.end.high.0) _ t (λ e. refl) (λ e. refl)
 
@@ -106,10 +107,10 @@ module _ (r : ℕ) (limit : Floor) (ts : List Task) (t : Task) (ss : List Stretc
     needs : has t.set r ≡ true → Needed n (possible_days t) s
     needs has = found n (needs_told r limit ts t ss b known has)
 
-    origin_is : has t.set r ≡ true → (o : Span) → Freed q dl u.origin o → left (keeps_origin r limit ts (listed_days ts) t) (days_of t.origin) ≡ left_of o
+    origin_is : has t.set r ≡ true → (o : Span Day) → Freed q dl u.origin o → left (keeps_origin r limit ts (listed_days ts) t) (days_of t.origin) ≡ left_of o
     origin_is has o = left_origin r limit ts t known.among u.origin o (needs_origin r n t s (needs has) (λ i e. let p = among i e in (p.late, p.early)))
 
-    end_is : has t.set r ≡ true → (e : Span) → FreedEnds q dl u.end e → left (keeps_end r limit ts (listed_days ts) t) (days_of t.end) ≡ left_of e
+    end_is : has t.set r ≡ true → (e : Span Day) → FreedEnds q dl u.end e → left (keeps_end r limit ts (listed_days ts) t) (days_of t.end) ≡ left_of e
     end_is has e = left_end r limit ts t known.among u.end e (needs_end r n t s (needs has) (λ i e. let p = among i e in (p.late, p.early)))
 
     -- ---- only here: what the searches leave
@@ -167,10 +168,10 @@ module _ (r : ℕ) (limit : Floor) (ts : List Task) (t : Task) (ss : List Stretc
         let s = sure_in r i t still.alone (running_in r i t (omega z) (omega z)) in
         clash (sure r i t) s (unsure r limit ts t ss b known still.alone i f)
 
-    still_cut : (s : Span) → ((v : ℤ) → Within (days_of s) v → (i : ℤ) → Possible r i t → Within (range ((i -ℤ du) +ℤ pos 1) i) v) → Cut n du s s
+    still_cut : (s : Span Day) → ((v : ℤ) → Within (days_of s) v → (i : ℤ) → Possible r i t → Within (range ((i -ℤ du) +ℤ pos 1) i) v) → Cut n du s s
     still_cut s f = record { least = omega z; most = omega z; meets = λ v a i e. f v a i (among i e); whole = λ v a m. a }
 
-    finished_live : Live t → finished t ≡ Kept t
+    finished_live : Live t → finished t ≡ Ok t
     unfolding finished
     finished_live l =
         rw (
@@ -180,7 +181,7 @@ module _ (r : ℕ) (limit : Floor) (ts : List Task) (t : Task) (ss : List Stretc
           l.set,
         )
 
-    pub still_page : Kept t ≡ narrowed r limit ts (listed_days ts) t
+    pub still_page : Ok t ≡ narrowed r limit ts (listed_days ts) t
     still_page =
         let live = here_live r limit ts t ss b known (only_has t.set r still.alone) in
         let f₁ = +z t.origin.low.0 du in
@@ -202,7 +203,7 @@ module _ (r : ℕ) (limit : Floor) (ts : List Task) (t : Task) (ss : List Stretc
 
 -- ---- no rule touches it
 module _ (r : ℕ) (limit : Floor) (ts : List Task) (t : Task) (live : Live t) where
-  pub quiet_page : ((i : ℤ) → Quiet r limit ts t i) → Kept t ≡ narrowed r limit ts (listed_days ts) t
+  pub quiet_page : ((i : ℤ) → Quiet r limit ts t i) → Ok t ≡ narrowed r limit ts (listed_days ts) t
   quiet_page f =
       sym (narrowed_untouched r limit ts (listed_days ts) t (λ i. let q = f i in untouched_unbarred r limit ts t i q.unneeded q.unbarred q.unlifted) live)
 

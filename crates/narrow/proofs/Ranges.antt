@@ -15,6 +15,7 @@ use Rattle.integers.proofs.Z.{z, +z, -z, maxz, minz, predz}
 use Rattle.integers.proofs.Tests.{clash, by_cases, if-case, false_in, and_first, and_second, and_in, implies_in, implies_out, not_in, not_out, all_in}
 use Rattle.integers.proofs.Hull.{within_is, within_in, left_is, left_none}
 use Rattle.plan.specs.declared.Task.{Task}
+use Rattle.plan.specs.declared.Day.{Day}
 use Rattle.plan.specs.declared.Span.{Span}
 use Rattle.plan.specs.Days.{day, days_of, cut_to, cut_below, cut_above}
 use Rattle.rules.specs.Frame.{Floor}
@@ -27,7 +28,7 @@ use Rattle.searches.proofs.Parts.{lt_cases}
 use Rattle.narrow.specs.Ready.{possible_days, with_needs, left_of}
 
 -- ---- what a test leaves of a range
-left_of_lem : (p : ℤ → Bool) (s : Range) (out : Span) → s.low ≤ℤ out.low.0 → out.high.0 ≤ℤ s.high
+left_of_lem : (p : ℤ → Bool) (s : Range) (out : Span Day) → s.low ≤ℤ out.low.0 → out.high.0 ≤ℤ s.high
     → (out.low.0 ≤ℤ out.high.0 → (p out.low.0 ≡ true) × (p out.high.0 ≡ true))
     → ((v : ℤ) → Within s v → p v ≡ true → (out.low.0 ≤ℤ v) × (v ≤ℤ out.high.0)) → left p s ≡ left_of out
 left_of_lem p s out a b f g =
@@ -43,7 +44,7 @@ abbrev Meets : (ℤ → Bool) → ℤ → ℤ → Type 0
 Meets n d v = (i : ℤ) → n i ≡ true → Within (range ((i -ℤ d) +ℤ pos 1) i) v
 
 -- the values of u are those of s that meet every need
-pub record Cut (n : ℤ → Bool) (d : ℤ) (s u : Span) : Type 0 where
+pub record Cut (n : ℤ → Bool) (d : ℤ) (s u : Span Day) : Type 0 where
   pub least : s.low.0 ≤ℤ u.low.0
   pub most : u.high.0 ≤ℤ s.high.0
   pub meets : (v : ℤ) → Within (days_of u) v → Meets n d v
@@ -55,7 +56,7 @@ module _ (r : ℕ) (n : ℤ → Bool) (t : Task) (s : Days) (h : Needed n (possi
   dh = t.duration.high.0
 
   -- only the first and the last day matter: what meets both meets all between them
-  cut_to_lem : lt_z s.from.0 t.end.high.0 ≡ true → (w : Span) → Cut n dh w (cut_to (s.to.0 -ℤ dh) s.from.0 w)
+  cut_to_lem : lt_z s.from.0 t.end.high.0 ≡ true → (w : Span Day) → Cut n dh w (cut_to (s.to.0 -ℤ dh) s.from.0 w)
   unfolding cut_to cut_below cut_above
   cut_to_lem e w =
       let f = h.first (omega z) in
@@ -77,7 +78,7 @@ module _ (r : ℕ) (n : ℤ → Bool) (t : Task) (s : Days) (h : Needed n (possi
             omega (z, a, b, c, p, y, l, predz s.to.0, -z j dh, +z (j -ℤ dh) (pos 1));
       }
 
-  uncut : lt_z s.from.0 t.end.high.0 ≡ false → (d : ℤ) (w : Span) → Cut n d w w
+  uncut : lt_z s.from.0 t.end.high.0 ≡ false → (d : ℤ) (w : Span Day) → Cut n d w w
   uncut e d w =
       record {
         least = omega z;
@@ -91,7 +92,7 @@ module _ (r : ℕ) (n : ℤ → Bool) (t : Task) (s : Days) (h : Needed n (possi
   unfolding with_needs
   needs_origin = if-case (λ (u : Task). Cut n dh t.origin u.origin) (lt_z s.from.0 t.end.high.0) _ t (λ e. cut_to_lem e t.origin) (λ e. uncut e dh t.origin)
 
-  earlier_cut : (a b : ℤ) (w : Span) → cut_to (a -ℤ dh) b (earlier dh w) ≡ earlier dh (cut_to a (b +ℤ dh) w)
+  earlier_cut : (a b : ℤ) (w : Span Day) → cut_to (a -ℤ dh) b (earlier dh w) ≡ earlier dh (cut_to a (b +ℤ dh) w)
   unfolding cut_to cut_below cut_above
   earlier_cut a b w =
       let x = w.low.0 in
@@ -177,10 +178,10 @@ module _ (r : ℕ) (limit : Floor) (ts : List Task) (t : Task) (k : In t ts) whe
         f (record { day = i; late = w.most; early = omega (z, w, -z i dl, +z (i -ℤ dl) (pos 1), +z o dl); bad = e })))))
 
     -- the same range for the origins of its values
-    abbrev origins : ℤ → Span → Span
+    abbrev origins : ℤ → Span Day → Span Day
     origins d s = record { low = day (origin d s.low.0); high = day (origin d s.high.0) }
 
-    left_moved : (s u out : Span) → Cut n du (origins du s) (origins du u) → Freed q dl (origins dl u) (origins dl out) → left keeps (days_of s) ≡ left_of out
+    left_moved : (s u out : Span Day) → Cut n du (origins du s) (origins du u) → Freed q dl (origins dl u) (origins dl out) → left keeps (days_of s) ≡ left_of out
     left_moved s u out c f =
         let a = out.low.0 in
         let b = out.high.0 in
@@ -202,12 +203,12 @@ module _ (r : ℕ) (limit : Floor) (ts : List Task) (t : Task) (k : In t ts) whe
         ))
 
   -- ---- THE PAGE'S RANGES
-  pub left_origin : (u out : Span) → Cut n du t.origin u → Freed q dl u out
+  pub left_origin : (u out : Span Day) → Cut n du t.origin u → Freed q dl u out
       → left (keeps_origin r limit ts (listed_days ts) t) (days_of t.origin) ≡ left_of out
   unfolding keeps_origin
   left_origin u out = left_moved _ _ as_origins t.origin u out
 
-  pub left_end : (u out : Span) → Cut n du (earlier du t.end) (earlier du u) → FreedEnds q dl u out
+  pub left_end : (u out : Span Day) → Cut n du (earlier du t.end) (earlier du u) → FreedEnds q dl u out
       → left (keeps_end r limit ts (listed_days ts) t) (days_of t.end) ≡ left_of out
   unfolding keeps_end
   left_end u out = left_moved _ _ as_ends t.end u out
@@ -216,7 +217,7 @@ module _ (r : ℕ) (limit : Floor) (ts : List Task) (t : Task) (k : In t ts) whe
   abbrev keeps_length : ℤ → ℤ → Bool
   keeps_length v i = implies (q i) (le_z v (room (possible_days t) i))
 
-  pub left_duration : (out : Span) → out.low.0 ≡ dl → Longest q (possible_days t) du out.high.0
+  pub left_duration : (out : Span Day) → out.low.0 ≡ dl → Longest q (possible_days t) du out.high.0
       → left (keeps_duration r limit ts (listed_days ts) t) (days_of t.duration) ≡ left_of out
   unfolding keeps_duration
   left_duration out a l =

@@ -7,12 +7,12 @@ use native.Mathlib.Omega.{arith}
 use lib.ListN.{length, take, drop, get_or, length-take, length-drop}
 use lib.Seq.{get_or-take, get_or-drop}
 use lib.IntN.{ℤ}
+use Rattle.std.specs.Prelude.{Ok}
 use Rattle.integers.specs.Tests.{any}
 use Rattle.integers.proofs.Z.{z}
 use Rattle.integers.proofs.Tests.{clash, by_cases, false_in}
 use Rattle.integers.proofs.Lists.{any_place, in_at, in_any}
 use Rattle.plan.specs.declared.Task.{Task}
-use Rattle.plan.specs.declared.Narrowed.TheVariants.{Kept}
 use Rattle.rules.specs.Frame.{Floor}
 use Rattle.rules.specs.Step.{possible, narrowed, listed_days}
 use Rattle.rules.proofs.Live.{Live}
@@ -90,5 +90,5 @@ module _ (r : ℕ) (limit : Floor) (ts : List Task) (t : Task) (live : Live t) (
           h
 
   -- no stretch is left: no rule touches the task
-  pub none_page : b ≤ a → Kept t ≡ narrowed r limit ts (listed_days ts) t
+  pub none_page : b ≤ a → Ok t ≡ narrowed r limit ts (listed_days ts) t
   none_page m = quiet_page r limit ts t live (λ i. quiet_outside i (λ k l o c d. omega arith))

@@ -1,5 +1,5 @@
 -- One task against a finished profile: what is asked, and the task that is left, put together from its parts.
-use Rattle.std.specs.Prelude.{◌≡◌, Bool, true, false, List, ℕ, ◌<◌, ◌^◌, eqb, ℤ, pos, ◌+ℤ◌, ◌-ℤ◌, ◌≤ℤ◌, ◌<ℤ◌}
+use Rattle.std.specs.Prelude.{◌≡◌, Bool, true, false, List, ℕ, ◌<◌, ◌^◌, eqb, ℤ, pos, ◌+ℤ◌, ◌-ℤ◌, ◌≤ℤ◌, ◌<ℤ◌, Ok, Err}
 use Rattle.std.specs.Int.Signed.{lt_z}
 use Rattle.integers.specs.Tests.{if, and, any}
 use Rattle.integers.specs.Whole.{larger}
@@ -7,11 +7,11 @@ use Rattle.integers.specs.Lists.{In}
 use Rattle.integers.specs.Hull.{Left}
 use Rattle.integers.specs.Hull.Left.{Nothing, Some}
 use Rattle.plan.specs.declared.Task.{Task}
+use Rattle.plan.specs.declared.Day.{Day}
+use Rattle.plan.specs.declared.Power.{Power}
 use Rattle.plan.specs.declared.Span.{Span}
-use Rattle.plan.specs.declared.PowerSpan.{PowerSpan}
-use Rattle.plan.specs.declared.Narrowed.{Narrowed}
-use Rattle.plan.specs.declared.Narrowed.TheVariants.{Kept, RanOut}
 use Rattle.plan.specs.declared.Value.TheVariants.{Origin, Duration, End, Set}
+use Rattle.plan.specs.Refusals.{Narrowed}
 use Rattle.plan.specs.Days.{days_of, empty_span, cut_to}
 use Rattle.plan.specs.Powers.{power}
 use Rattle.plan.specs.Sets.{set_bits, only, without}
@@ -87,7 +87,7 @@ pub record Raised (t : Task) (ss : List Stretch) (low : ℤ) : Type 0 where
   pub least : Least ss (running_days t) (t.height.high.0 -ℤ t.height.low.0) slack
   pub is : low ≡ t.height.high.0 -ℤ larger slack (pos 0)
 
-pub record Lifted (t : Task) (ss : List Stretch) (h : PowerSpan) : Type 0 where
+pub record Lifted (t : Task) (ss : List Stretch) (h : Span Power) : Type 0 where
   pub high : h.high ≡ t.height.high
   pub raised : lt_z t.height.low.0 t.height.high.0 ≡ true → Raised t ss h.low.0
   pub same : lt_z t.height.low.0 t.height.high.0 ≡ false → h.low ≡ t.height.low
@@ -106,12 +106,12 @@ pub record Still (r : ℕ) (t : Task) : Type 0 where
   pub long : t.end.high.0 ≤ℤ (t.origin.low.0 +ℤ t.duration.high.0)
 
 -- ---- what is left: a range whose low end is above its high end is empty
-abbrev pub left_of : Span → Left
+abbrev pub left_of : Span Day → Left
 left_of s = if (empty_span s) Nothing (Some (days_of s))
 
 -- the task, or the first of its values of which nothing is left; the height is never that value
 unfoldable pub finished : Task → Narrowed
 finished t =
-    if (empty_span t.origin) (RanOut Origin)
-    (if (empty_span t.duration) (RanOut Duration)
-    (if (empty_span t.end) (RanOut End) (if (eqb t.set 0) (RanOut Set) (Kept t))))
+    if (empty_span t.origin) (Err Origin)
+    (if (empty_span t.duration) (Err Duration)
+    (if (empty_span t.end) (Err End) (if (eqb t.set 0) (Err Set) (Ok t))))

@@ -4,40 +4,37 @@
 // early, so the two are not mixed. Cost: the stretches, once for each search; no loop runs over days.
 #![tactic(auto)]
 
-ghost use Rattle.std.specs.Prelude.{◌≡◌, true, false, ◌-◌, ◌≤◌, ◌<◌, length, eqb};
+ghost use Rattle.std.specs.Prelude.{◌≡◌, true, false, ◌≤◌, ◌<◌, length, eqb};
 ghost use Rattle.plan.specs.Sets.{set_bits, has, only};
 ghost use Rattle.plan.specs.Tasks.{Bounded};
-ghost use Rattle.stretches.specs.View.{stretches_of};
 ghost use Rattle.stretches.specs.Tells.{Ordered};
 ghost use Rattle.searches.specs.Searches.{BothIn, days_in, Dated};
 ghost use Rattle.narrow.specs.Ready.{Ready, HasDay, ByPage, NeedsFound, Free, Lifted, Still};
 ghost use Rattle.narrow.specs.Ready.{possible_days, running_days, reach_of, with_needs, without_here, finished};
 ghost use Rattle.narrow.specs.Window.{Over, Ahead};
 
-use plan::{Day, Narrowed, Power, PowerSpan, Span, Task, Value};
+use plan::{Day, Power, Span, Task, Value};
 use searches::{Days, Reach};
-use stretches::StretchRow;
+use stretches::Stretch;
 
 // "possible if .. origin low <= i < end high"
 fn possible_days(t: Task) -> Days
     ensures { result ≡ possible_days t }
 {
-    let origin = t.origin;
-    let end = t.end;
-    let from = origin.low;
-    let to = end.high;
-    Days { from: from, to: to }
+    Days {
+        from: t.origin.low,
+        to: t.end.high,
+    }
 }
 
 // "origin high <= i < end low"
 fn running_days(t: Task) -> Days
     ensures { result ≡ running_days t }
 {
-    let origin = t.origin;
-    let end = t.end;
-    let from = origin.high;
-    let to = end.low;
-    Days { from: from, to: to }
+    Days {
+        from: t.origin.high,
+        to: t.end.low,
+    }
 }
 
 // What the searches for free values and for the longest duration ask of a task.
@@ -53,162 +50,134 @@ fn reach_of(t: Task) -> Reach
 }
 
 // From the first day on which the task is needed to past the last.
-fn needs_of(ss: &[StretchRow], t: Task) -> Days
+fn needs_of(stretches: &[Stretch], t: Task) -> Days
     requires { Dated (possible_days t) }
-    ensures { BothIn (days_in (possible_days t)) (days_in result) × NeedsFound t (stretches_of ss.now) result }
+    ensures { BothIn (days_in (possible_days t)) (days_in result) × NeedsFound t stretches.now result }
 {
-    let height = t.height;
-    let high = height.high;
-    let zero = Power(0);
     let w = possible_days(t);
-    if zero.below(high) {
-        return searches::needed_days(ss, w, high);
+    let high = t.height.high;
+    if Power(0) < high {
+        return searches::needed_days(stretches, w, high);
     }
     // "a task possible on i with positive highest height": any other is needed on no day.
-    let first = w.from;
-    let end = w.to;
     Days {
-        from: end,
-        to: first,
+        from: w.to,
+        to: w.from,
     }
 }
 
 // The needs of the days s joined.
+#[tactic(auto, unfolding(crate::specs::Ready::with_needs))]
 fn with_needs(t: Task, r: u64, s: Days) -> Task
     requires { Ready r t × BothIn (days_in (possible_days t)) (days_in s) }
     ensures { result ≡ with_needs r s t }
 {
-    let first = s.from;
-    let past = s.to;
-    let origin = t.origin;
-    let duration = t.duration;
-    let end = t.end;
-    let height = t.height;
-    let longest = duration.high;
     // Only the first and the last day matter: what covers both with its longest duration covers every day between.
-    if first.before(end.high) {
+    if s.from < t.end.high {
+        let longest = t.duration.high;
         return Task {
             set: 1 << r,
-            origin: origin.cut_to(past.minus(longest), first),
-            duration: duration,
-            end: end.cut_to(past, first.plus(longest)),
-            height: height,
+            origin: t.origin.cut_to(s.to - longest, s.from),
+            end: t.end.cut_to(s.to, s.from + longest),
+            ..t
         };
     }
     t
 }
 
 // "a task sure on i has height at least L - others": the highest height less the slack.
-fn lifted(ss: &[StretchRow], t: Task) -> PowerSpan
+fn lifted(stretches: &[Stretch], t: Task) -> Span<Power>
     requires { Bounded t }
-    ensures { Lifted t (stretches_of ss.now) result }
+    ensures { Lifted t stretches.now result }
 {
-    let height = t.height;
-    let low = height.low;
-    let high = height.high;
+    let Span { low, high } = t.height;
     // With no shortfall a height of one value is enough on every sure day.
-    if high.not_above(low) {
-        return height;
+    if high <= low {
+        return t.height;
     }
     // No other day asks for more than the lowest height, and with no shortfall no slack is below 0.
-    let slack = searches::least_slack(ss, running_days(t), high.minus(low));
-    PowerSpan {
-        low: high.minus(slack.larger(Power(0))),
-        high: high,
+    let slack = searches::least_slack(stretches, running_days(t), high - low);
+    Span {
+        low: high - slack.max(Power(0)),
+        high,
     }
 }
 
 // The task, or the first of its values of which nothing is left. The height is never that value: the highest stays.
-fn finish(t: Task) -> Narrowed
+#[tactic(auto, unfolding(crate::specs::Ready::finished))]
+fn finish(t: Task) -> Result<Task, Value>
     ensures { result ≡ finished t }
 {
-    let origin = t.origin;
-    let duration = t.duration;
-    let end = t.end;
-    if origin.is_empty() {
-        return Narrowed::RanOut(Value::Origin);
+    if t.origin.is_empty() {
+        return Err(Value::Origin);
     }
-    if duration.is_empty() {
-        return Narrowed::RanOut(Value::Duration);
+    if t.duration.is_empty() {
+        return Err(Value::Duration);
     }
-    if end.is_empty() {
-        return Narrowed::RanOut(Value::End);
+    if t.end.is_empty() {
+        return Err(Value::End);
     }
     if t.set == 0 {
-        return Narrowed::RanOut(Value::Set);
+        return Err(Value::Set);
     }
-    Narrowed::Kept(t)
+    Ok(t)
 }
 
 // A task that is only here, some of whose days may be barred.
-fn narrow_barred(ss: &[StretchRow], t: Task, r: u64) -> Task
+fn narrow_barred(stretches: &[Stretch], t: Task, r: u64) -> Task
     requires { Ready r t × HasDay t }
-    ensures { only t.set r ≡ true → ByPage r t (stretches_of ss.now) (finished result) }
+    ensures { only t.set r ≡ true → ByPage r t stretches.now (finished result) }
 {
     let x = reach_of(t);
-    let s = needs_of(ss, t);
+    let s = needs_of(stretches, t);
     let u = with_needs(t, r, s);
-    let duration = t.duration;
-    let least = duration.low;
-    let most = duration.high;
-    let origin = u.origin;
-    let end = u.end;
+    let least = t.duration.low;
     // "origins i - duration low + 1 .. i and ends i + 1 .. i + duration low are barred": an end less the least duration is an origin.
-    let o = searches::free_span(ss, x, least, origin);
-    let e = searches::ends_after(ss, x, least, end, origin, o);
-    let d = Span {
-        low: least,
-        high: searches::longest(ss, x, most),
-    };
-    let h = lifted(ss, t);
+    let origin = searches::free_span(stretches, x, least, u.origin);
     Task {
-        set: u.set,
-        origin: o,
-        duration: d,
-        end: e,
-        height: h,
+        origin,
+        duration: Span {
+            low: least,
+            high: searches::longest(stretches, x, t.duration.high),
+        },
+        end: searches::ends_after(stretches, x, least, u.end, u.origin, origin),
+        height: lifted(stretches, t),
+        ..u
     }
 }
 
 // Whether no possible day leaves the task less than it asks: then none is barred.
-fn is_free(ss: &[StretchRow], t: Task) -> bool
+fn is_free(stretches: &[Stretch], t: Task) -> bool
     requires { Bounded t }
-    ensures { result ≡ true → Free t (stretches_of ss.now) }
+    ensures { result ≡ true → Free t stretches.now }
 {
-    let b = stretches::bar_of(t);
-    let x = searches::least_slack(ss, possible_days(t), b);
-    b.not_above(x)
+    let bar = stretches::bar_of(t);
+    bar <= searches::least_slack(stretches, possible_days(t), bar)
 }
 
 // A task that is only here and has no barred day: needs and its height are all that can change.
-fn narrow_free(ss: &[StretchRow], t: Task, r: u64) -> Task
+fn narrow_free(stretches: &[Stretch], t: Task, r: u64) -> Task
     requires { Ready r t × HasDay t }
-    ensures { only t.set r ≡ true → Free t (stretches_of ss.now) → ByPage r t (stretches_of ss.now) (finished result) }
+    ensures { only t.set r ≡ true → Free t stretches.now → ByPage r t stretches.now (finished result) }
 {
-    let s = needs_of(ss, t);
+    let s = needs_of(stretches, t);
     let u = with_needs(t, r, s);
-    let origin = u.origin;
-    let duration = t.duration;
-    let end = u.end;
-    let h = lifted(ss, t);
     Task {
-        set: u.set,
-        origin: origin,
-        duration: duration,
-        end: end,
-        height: h,
+        height: lifted(stretches, t),
+        ..u
     }
 }
 
 // A task that is only here.
-fn narrow_only(ss: &[StretchRow], t: Task, r: u64) -> Task
+fn narrow_only(stretches: &[Stretch], t: Task, r: u64) -> Task
     requires { Ready r t × HasDay t }
-    ensures { only t.set r ≡ true → ByPage r t (stretches_of ss.now) (finished result) }
+    ensures { only t.set r ≡ true → ByPage r t stretches.now (finished result) }
 {
-    if is_free(ss, t) {
-        return narrow_free(ss, t, r);
+    if is_free(stretches, t) {
+        narrow_free(stretches, t, r)
+    } else {
+        narrow_barred(stretches, t, r)
     }
-    narrow_barred(ss, t, r)
 }
 
 // "r leaves its set"
@@ -216,92 +185,77 @@ fn without_here(t: Task, r: u64) -> Task
     requires { r < set_bits }
     ensures { result ≡ without_here r t }
 {
-    let origin = t.origin;
-    let duration = t.duration;
-    let end = t.end;
-    let height = t.height;
     Task {
         set: plan::without_resource(t.set, r),
-        origin: origin,
-        duration: duration,
-        end: end,
-        height: height,
+        ..t
     }
 }
 
 // A task that may stand elsewhere too: bars take only this resource from it.
-fn narrow_shared(ss: &[StretchRow], t: Task, r: u64) -> Task
+fn narrow_shared(stretches: &[Stretch], t: Task, r: u64) -> Task
     requires { Ready r t × HasDay t }
-    ensures { only t.set r ≡ false → has t.set r ≡ true → ByPage r t (stretches_of ss.now) (finished result) }
+    ensures { only t.set r ≡ false → has t.set r ≡ true → ByPage r t stretches.now (finished result) }
 {
-    let s = needs_of(ss, t);
+    let s = needs_of(stretches, t);
     let u = with_needs(t, r, s);
-    let b = stretches::bar_of(t);
+    let bar = stretches::bar_of(t);
     // "If origin high <= i < end low, r leaves its set": one such day of too little slack is enough.
-    let x = searches::least_slack(ss, running_days(t), b);
-    if x.below(b) {
-        return without_here(u, r);
+    if searches::least_slack(stretches, running_days(t), bar) < bar {
+        without_here(u, r)
+    } else {
+        u
     }
-    u
 }
 
 // A task that may stand here and has a possible day.
-fn narrow_here(ss: &[StretchRow], t: Task, r: u64) -> Narrowed
+fn narrow_here(stretches: &[Stretch], t: Task, r: u64) -> Result<Task, Value>
     requires { Ready r t × HasDay t }
-    ensures { has t.set r ≡ true → ByPage r t (stretches_of ss.now) result }
+    ensures { has t.set r ≡ true → ByPage r t stretches.now result }
 {
     if plan::only_resource(t.set, r) {
-        return finish(narrow_only(ss, t, r));
+        finish(narrow_only(stretches, t, r))
+    } else {
+        finish(narrow_shared(stretches, t, r))
     }
-    finish(narrow_shared(ss, t, r))
-}
-
-// Of so many, all but the last.
-fn but_last(n: usize) -> usize
-    ensures { result ≡ n - 1 }
-{
-    if 0 < n { n - 1 } else { 0 }
 }
 
 // Of fewer stretches than this all are taken: to search for those that a task can meet costs more than it saves.
 const WORTH_A_SEARCH: usize = 4;
 
 // A place before which every stretch is over by the day: that of the last that begins before it.
-fn first_met(ss: &[StretchRow], from: Day) -> usize
-    ensures { Ordered (stretches_of ss.now) → Over (stretches_of ss.now) from.0 result }
+fn first_met(stretches: &[Stretch], from: Day) -> usize
+    ensures { Ordered stretches.now → Over stretches.now from.0 result }
 {
-    if ss.len() < WORTH_A_SEARCH {
+    if stretches.len() < WORTH_A_SEARCH {
         0
     } else {
-        but_last(searches::begun(ss, from))
+        searches::begun(stretches, from).saturating_sub(1)
     }
 }
 
 // A place from which on every stretch begins on the day or later: that of the first that does.
-fn past_met(ss: &[StretchRow], to: Day) -> usize
-    ensures { (result ≤ length ss.now) × (Ordered (stretches_of ss.now) → Ahead (stretches_of ss.now) to.0 result) }
+fn past_met(stretches: &[Stretch], to: Day) -> usize
+    ensures { (result ≤ length stretches.now) × (Ordered stretches.now → Ahead stretches.now to.0 result) }
 {
-    let n = ss.len();
-    if n < WORTH_A_SEARCH {
-        n
+    if stretches.len() < WORTH_A_SEARCH {
+        stretches.len()
     } else {
-        searches::begun(ss, to)
+        searches::begun(stretches, to)
     }
 }
 
 // Only the stretches that can meet the task's possible days, where there are many: from the last that begins before them to the last that
 // begins on one of them. On the days of any other the task is not possible, so that no rule speaks of it.
-fn narrow_window(ss: &[StretchRow], t: Task, r: u64) -> Narrowed
+fn narrow_window(stretches: &[Stretch], t: Task, r: u64) -> Result<Task, Value>
     requires { Ready r t × HasDay t }
-    ensures { has t.set r ≡ true → ByPage r t (stretches_of ss.now) result }
+    ensures { has t.set r ≡ true → ByPage r t stretches.now result }
 {
-    let w = possible_days(t);
-    let a = first_met(ss, w.from);
-    let b = past_met(ss, w.to);
+    let a = first_met(stretches, t.origin.low);
+    let b = past_met(stretches, t.end.high);
     if a < b {
-        narrow_here(&ss[a..b], t, r)
+        narrow_here(&stretches[a..b], t, r)
     } else {
-        Narrowed::Kept(t)
+        Ok(t)
     }
 }
 
@@ -311,37 +265,22 @@ fn is_still(t: Task, r: u64) -> bool
     requires { Ready r t }
     ensures { result ≡ true → Still r t }
 {
-    let origin = t.origin;
-    let duration = t.duration;
-    let end = t.end;
-    let height = t.height;
-    let start = origin.low;
-    let first = origin.high;
-    let low = end.low;
-    let high = end.high;
-    let least = height.low;
     plan::only_resource(t.set, r)
-        && (first.not_after(start)
-            && (high.not_after(low)
-                && (height.high.not_above(least) && high.not_after(start.plus(duration.high)))))
+        && t.origin.high <= t.origin.low
+        && t.end.high <= t.end.low
+        && t.height.high <= t.height.low
+        && t.end.high <= t.origin.low + t.duration.high
 }
 
 // THE TASK AFTER THE STEP OF RESOURCE r, for every list of tasks and limit that the stretches tell of.
-pub fn narrow(ss: &[StretchRow], t: Task, r: u64) -> Narrowed
+pub fn narrow(stretches: &[Stretch], t: Task, r: u64) -> Result<Task, Value>
     requires { Ready r t }
-    ensures { eqb t.set 0 ≡ false → ByPage r t (stretches_of ss.now) result }
+    ensures { eqb t.set 0 ≡ false → ByPage r t stretches.now result }
 {
-    let w = possible_days(t);
-    let from = w.from;
-    let to = w.to;
     // No rule speaks of a task on a day on which it is not possible.
-    if from.before(to) && plan::has_resource(t.set, r) {
-        if is_still(t, r) {
-            Narrowed::Kept(t)
-        } else {
-            narrow_window(ss, t, r)
-        }
+    if t.origin.low < t.end.high && plan::has_resource(t.set, r) && !is_still(t, r) {
+        narrow_window(stretches, t, r)
     } else {
-        Narrowed::Kept(t)
+        Ok(t)
     }
 }

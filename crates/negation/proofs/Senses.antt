@@ -1,11 +1,11 @@
 -- A call worked out at least, on the plan as it is for its sense, is the call as it is for its sense; and for its sense twice is as it was.
+use Rattle.std.specs.Prelude.{Ok, Err}
+use Rattle.plan.specs.Refusals.{Answer}
 use mathlib.Core.Path.{◌≡◌, refl, sym, ap, ◌∙◌}
 use mathlib.Core.List.{List}
 use Rattle.plan.specs.declared.Task.{Task}
 use Rattle.plan.specs.declared.Resource.{Resource}
 use Rattle.plan.specs.declared.Band.{Band}
-use Rattle.plan.specs.declared.Answer.{Answer}
-use Rattle.plan.specs.declared.Answer.TheVariants.{Done, Refused}
 use Rattle.plan.specs.declared.Call.{Call}
 use Rattle.plan.specs.declared.Sense.{Sense}
 use Rattle.plan.specs.declared.Sense.TheVariants.{AtMost, AtLeast}
@@ -49,5 +49,5 @@ call_back sense a ts us x e = sym (back sense a) ∙ ap (result_for sense) e ∙
   where
     back : (sense : Sense) (a : Answer) → result_for sense (result_of a (tasks_for sense ts) us) ≡ result_of a ts (tasks_for sense us)
     back AtLeast a = refl
-    back AtMost (Done n) = refl
-    back AtMost (Refused f) = ap (refused f) (negateds_back ts)
+    back AtMost (Ok n) = refl
+    back AtMost (Err f) = ap (refused f) (negateds_back ts)

@@ -1,13 +1,10 @@
 -- A plan by its sense: at least it is worked on as it is, at most negated: "every height and limit negated and each height's two ends swapped".
-use Rattle.std.specs.Prelude.{List, map, ℕ, ◌<◌, length, get_or}
-use Rattle.integers.specs.Ends.{Within}
+use Rattle.std.specs.Prelude.{List, map}
 use Rattle.plan.specs.declared.Task.{Task}
 use Rattle.plan.specs.declared.Resource.{Resource}
 use Rattle.plan.specs.declared.Band.{Band}
 use Rattle.plan.specs.declared.Sense.{Sense}
 use Rattle.plan.specs.declared.Sense.TheVariants.{AtMost, AtLeast}
-use Rattle.plan.specs.Powers.{power_ends}
-use Rattle.plan.specs.Tasks.{no_resource}
 use Rattle.rules.specs.Frame.{Frame, framed}
 use Rattle.rules.specs.Step.{negated}
 use Rattle.rules.specs.Calls.{Result}
@@ -33,7 +30,3 @@ frame_for f = framed AtLeast (resources_for f.sense f.resources) (bands_for f.se
 abbrev pub result_for : Sense → Result → Result
 result_for AtLeast x = x
 result_for AtMost x = negated_result x
-
--- each limit within its ends: what refusal 4 leaves
-abbrev pub LimitsFit : List Resource → Type 0
-LimitsFit qs = (r : ℕ) → r < length qs → Within power_ends (get_or qs r no_resource).limit.0

@@ -1,3 +1,4 @@
--- What rows that are ready tell of their places, and that they stay ready; the places that a pass leaves out.
+-- What a plan that is ready tells of its places, and that it stays ready; the places that a pass leaves out; what settling answers.
 pub mod Ready
 pub mod Skips
+pub mod Within

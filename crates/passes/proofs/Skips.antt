@@ -1,6 +1,7 @@
 -- A pass leaves out the places that its mask does not have: the steps there would change nothing.
+use Rattle.plan.specs.Refusals.{accepted}
 use mathlib.Core.Path.{◌≡◌, sym, subst}
-use mathlib.Core.Bool.{Bool, true, false, not}
+use mathlib.Core.Bool.{Bool, false, not}
 use mathlib.Core.List.{List}
 use Prim.Native.Nat.{ℕ, zero, suc, ◌+◌, ◌-◌, ◌≤◌, ◌<◌}
 use native.Mathlib.Numerals.{add-one}
@@ -8,7 +9,6 @@ use native.Mathlib.Omega.{arith}
 use lib.Dec.{T, ltb, ltb→lt, nltb→le}
 use Rattle.integers.proofs.Tests.{by_cases}
 use Rattle.plan.specs.declared.Task.{Task}
-use Rattle.plan.specs.declared.Checked.TheVariants.{Accepted}
 use Rattle.plan.specs.Sets.{has, lowest, next}
 use Rattle.plan.proofs.Counting.{below_lowest, next_above, before_next}
 use Rattle.rules.specs.Frame.{Frame, resource_count, places_from}
@@ -18,7 +18,7 @@ use Rattle.idle.specs.declared.Passed.{Passed}
 use Rattle.idle.proofs.Mask.{rest_took}
 use Rattle.idle.proofs.Passing.{Passing, passing_more}
 
-module _ (f : Frame) (ts : List Task) (a : check f ts ≡ Accepted) (before : Bool) (p : Passed) (us : List Task) (ok : p.ok ≡ true) where
+module _ (f : Frame) (ts : List Task) (a : check f ts ≡ accepted) (before : Bool) (p : Passed) (us : List Task) where
   abbrev At : ℕ → Type 0
   At r = Passing f ts before r p us
 
@@ -36,7 +36,7 @@ module _ (f : Frame) (ts : List Task) (a : check f ts ≡ Accepted) (before : Bo
       by_cases (ltb r (resource_count f))
       (λ e.
       let l = ltb→lt r (resource_count f) (subst T (sym e) tt) in
-      subst At (add-one r) (passing_more f ts a before r p us g l ok p us (rest_took f us p ok (g.noted ok).idle r l h)))
+      subst At (add-one r) (passing_more f ts a before r p us g l us p (rest_took f us p g.noted.idle r l h)))
       (λ e. beyond r (nltb→le r (resource_count f) (subst (λ b. T (not b)) (sym e) tt)) g)
 
   -- past d of them

@@ -1,2 +1,2 @@
--- What steps and calls on rows ask and promise.
+-- What steps and calls on lists ask and promise.
 pub mod Ready

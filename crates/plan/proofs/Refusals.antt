@@ -1,4 +1,5 @@
 -- A refusal is known by its number and its place, an answer by the number and values that the page gives it.
+use Rattle.std.specs.Prelude.{Ok, Err}
 use mathlib.Core.Path.{◌≡◌, refl, sym, ap, ap₂, ◌∙◌}
 use mathlib.Core.List.{List, [], ◌∷◌}
 use Prim.Native.Nat.{ℕ, ◌≤◌}
@@ -7,9 +8,7 @@ use lib.Dec.{eqb}
 use Rattle.integers.specs.Tests.{if}
 use Rattle.plan.specs.declared.Refusal.{Refusal}
 use Rattle.plan.specs.declared.Refusal.TheVariants.{TooManyTasks, ResourceCount, RepeatedIdentifier, LimitOutside, RangeOutside, SetOutside, NoPlan, WrongMark, CutShort, BufferShort, ListShort, NoSuchResource, BandOutside}
-use Rattle.plan.specs.declared.Answer.{Answer}
-use Rattle.plan.specs.declared.Answer.TheVariants.{Done, Refused}
-use Rattle.plan.specs.Refusals.{number, place, Told, told, told_refusal, told_answer}
+use Rattle.plan.specs.Refusals.{number, place, Told, told, told_refusal, told_answer, Answer}
 
 -- numbers count from 1 to 13
 pub number_ends : (f : Refusal) → (1 ≤ number f) × (number f ≤ 13)
@@ -80,11 +79,11 @@ pub told_refusals : (f g : Refusal) → told_refusal f ≡ told_refusal g → f 
 told_refusals f g e = refusal_once f g (ap (λ (t : Told). t.number) e) (first_value (ap (λ (t : Told). t.values) e))
 
 pub told_once : (a b : Answer) → told_answer a ≡ told_answer b → a ≡ b
-told_once (Done n) (Done m) e = ap Done (first_value (ap (λ (t : Told). t.values) e))
-told_once (Done n) (Refused g) e = told_refused g (n ∷ []) (sym e)
-told_once (Refused f) (Done m) e = told_refused f (m ∷ []) e
-told_once (Refused f) (Refused g) e = ap Refused (told_refusals f g e)
+told_once (Ok n) (Ok m) e = ap Ok (first_value (ap (λ (t : Told). t.values) e))
+told_once (Ok n) (Err g) e = told_refused g (n ∷ []) (sym e)
+told_once (Err f) (Ok m) e = told_refused f (m ∷ []) e
+told_once (Err f) (Err g) e = ap Err (told_refusals f g e)
 
-pub told_none : (a : Answer) → (told_answer a).number ≡ 7 → a ≡ Refused NoPlan
-told_none (Done n) e = absurd (omega arith)
-told_none (Refused f) e = ap Refused (number_none f e)
+pub told_none : (a : Answer) → (told_answer a).number ≡ 7 → a ≡ Err NoPlan
+told_none (Ok n) e = absurd (omega arith)
+told_none (Err f) e = ap Err (number_none f e)

@@ -29,22 +29,22 @@ abbrev pub duration_ends : Range
 duration_ends = range duration_low duration_high
 
 -- a range of days as a range of numbers, and back
-abbrev pub days_of : Span → Range
+abbrev pub days_of : Span Day → Range
 days_of s = range s.low.0 s.high.0
 
-abbrev pub span_of : Range → Span
+abbrev pub span_of : Range → Span Day
 span_of s = record { low = day s.low; high = day s.high }
 
 -- "is cut to a .. b": what lies below a, or above b, goes
-unfoldable pub cut_below : ℤ → Span → Span
+unfoldable pub cut_below : ℤ → Span Day → Span Day
 cut_below a s = record { low = day (larger s.low.0 a); high = s.high }
 
-unfoldable pub cut_above : ℤ → Span → Span
+unfoldable pub cut_above : ℤ → Span Day → Span Day
 cut_above b s = record { low = s.low; high = day (smaller s.high.0 b) }
 
-unfoldable pub cut_to : ℤ → ℤ → Span → Span
+unfoldable pub cut_to : ℤ → ℤ → Span Day → Span Day
 cut_to a b s = cut_above b (cut_below a s)
 
 -- no value left: low above high
-abbrev pub empty_span : Span → Bool
+abbrev pub empty_span : Span Day → Bool
 empty_span s = lt_z s.high.0 s.low.0

@@ -1,9 +1,26 @@
 -- The page's number and place for each refusal, and its number and values for each answer.
-use Rattle.std.specs.Prelude.{ℕ, List, [], ◌∷◌}
+use Rattle.std.specs.Prelude.{Ok, Err}
+use Rattle.std.specs.Prelude.{ℕ, List, [], ◌∷◌, Result, Ok, Err}
 use Rattle.plan.specs.declared.Refusal.{Refusal}
 use Rattle.plan.specs.declared.Refusal.TheVariants.{TooManyTasks, ResourceCount, RepeatedIdentifier, LimitOutside, RangeOutside, SetOutside, NoPlan, WrongMark, CutShort, BufferShort, ListShort, NoSuchResource, BandOutside}
-use Rattle.plan.specs.declared.Answer.{Answer}
-use Rattle.plan.specs.declared.Answer.TheVariants.{Done, Refused}
+use Rattle.plan.specs.declared.Task.{Task}
+use Rattle.plan.specs.declared.Value.{Value}
+
+-- what a check answers: accepted, or the first refusal
+abbrev pub Checked : Type 0
+Checked = Result (Unit {0}) Refusal
+
+abbrev pub accepted : Checked
+accepted = Ok tt
+
+-- what a call answers: done, with the passes that settling made or those that it makes at most (0 for every other call, and where the passes that
+-- settling may make were too few); or one refusal
+abbrev pub Answer : Type 0
+Answer = Result ℕ Refusal
+
+-- one task after a step: what is left of it, or the first value of which nothing is left
+abbrev pub Narrowed : Type 0
+Narrowed = Result Task Value
 
 -- "Numbered refusals", the first column
 abbrev pub number : Refusal → ℕ
@@ -51,5 +68,5 @@ told_refusal f = told (number f) (place f ∷ [])
 
 -- done: the pass count of settling (0 where the passes that it may make were too few), or how many passes it makes at most; 0 of every other call
 abbrev pub told_answer : Answer → Told
-told_answer (Done n) = told 0 (n ∷ [])
-told_answer (Refused f) = told_refusal f
+told_answer (Ok n) = told 0 (n ∷ [])
+told_answer (Err f) = told_refusal f

@@ -2,17 +2,19 @@
 // "A day number is never added to a power, so the two get separate kinds in the code."
 #![tactic(auto)]
 
-ghost use Rattle.std.specs.Prelude.{◌≡◌, ◌<◌, ◌+ℤ◌, ◌-ℤ◌, neg_ℤ, nat_abs, ◌≤ℤ◌};
-ghost use Rattle.std.specs.Int.Signed.{lt_z, le_z};
+ghost use Rattle.std.specs.Prelude.{◌≡◌, ◌<◌, ◌+ℤ◌, ◌-ℤ◌, neg_ℤ, nat_abs, ◌≤ℤ◌, ℤ};
 ghost use Rattle.std.specs.Int.{w64};
 ghost use Rattle.std.proofs.Common.{SFits};
-ghost use Rattle.integers.specs.Whole.{larger, smaller, eq_z};
-ghost use Rattle.integers.specs.Hull.{within, same_range, fits};
-ghost use Rattle.plan.specs.Days.{day, day_ends, duration_ends, days_of, span_of, cut_below, cut_above, cut_to, empty_span};
-ghost use Rattle.plan.specs.Powers.{power, power_ends, powers_of, power_span_of, negated_power, negated_powers};
+ghost use Rattle.integers.specs.Hull.{range, fits};
+ghost use Rattle.plan.specs.Days.{day, day_ends, duration_ends, span_of, cut_below, cut_above, cut_to, empty_span};
+ghost use Rattle.plan.specs.Powers.{power, power_ends, power_span_of, negated_power, negated_powers};
 ghost use Rattle.plan.specs.Refusals.{number, place};
 ghost use Rattle.plan.specs.Sets.{set_bits, has, only, at_most_one, without, size, lowest, next};
 ghost use Rattle.plan.specs.Tasks.{most_tasks, most_resources, most_bands};
+
+use std::error::Error;
+use std::fmt;
+use std::ops::{Add, Neg, Sub};
 
 // "1 to 16 resources", "up to 64 bands", "0 to 256 tasks".
 pub const MOST_RESOURCES: usize = 16;
@@ -22,7 +24,7 @@ pub const MOST_BANDS: usize = 64;
 pub const MOST_TASKS: usize = 256;
 
 // A day number, or a number of days.
-#[derive(Clone, Copy)]
+#[derive(Clone, Copy, PartialEq, Eq, PartialOrd, Ord)]
 pub struct Day(pub i64);
 
 // "origin, end (day number) from -100,000 to 100,000"; "duration from 0 to 10,000".
@@ -36,7 +38,7 @@ impl Day {
     pub const LONGEST: Day = Day(10_000);
 
     // The ends that the definitions name are these constants.
-    pub fn ends() -> Span
+    pub fn ends() -> Span<Day>
         ensures constants { (result.low.0 ≡ Day.LOW.0) × (result.high.0 ≡ Day.HIGH.0) }
         ensures named { result ≡ span_of day_ends }
     {
@@ -46,7 +48,7 @@ impl Day {
         }
     }
 
-    pub fn lengths() -> Span
+    pub fn lengths() -> Span<Day>
         ensures constants { (result.low.0 ≡ Day.SHORTEST.0) × (result.high.0 ≡ Day.LONGEST.0) }
         ensures named { result ≡ span_of duration_ends }
     {
@@ -55,62 +57,34 @@ impl Day {
             high: Day::LONGEST,
         }
     }
+}
 
-    pub fn plus(self, o: Day) -> Day
-        requires { SFits w64 (self.0 +ℤ o.0) }
-        ensures { result ≡ day (self.0 +ℤ o.0) }
-    {
+impl Add for Day {
+    type Output = Day;
+
+    ghost can_add = { λ a b. SFits w64 (a.0 +ℤ b.0) };
+
+    ghost add_gives = { λ a b r. r ≡ day (a.0 +ℤ b.0) };
+
+    fn add(self, o: Day) -> Day {
         Day(self.0 + o.0)
     }
+}
 
-    pub fn minus(self, o: Day) -> Day
-        requires { SFits w64 (self.0 -ℤ o.0) }
-        ensures { result ≡ day (self.0 -ℤ o.0) }
-    {
+impl Sub for Day {
+    type Output = Day;
+
+    ghost can_sub = { λ a b. SFits w64 (a.0 -ℤ b.0) };
+
+    ghost sub_gives = { λ a b r. r ≡ day (a.0 -ℤ b.0) };
+
+    fn sub(self, o: Day) -> Day {
         Day(self.0 - o.0)
-    }
-
-    pub fn larger(self, o: Day) -> Day
-        ensures { result ≡ day (larger self.0 o.0) }
-    {
-        Day(integers::larger_of(self.0, o.0))
-    }
-
-    pub fn smaller(self, o: Day) -> Day
-        ensures { result ≡ day (smaller self.0 o.0) }
-    {
-        Day(integers::smaller_of(self.0, o.0))
-    }
-
-    pub fn before(self, o: Day) -> bool
-        ensures { result ≡ lt_z self.0 o.0 }
-    {
-        self.0 < o.0
-    }
-
-    pub fn not_after(self, o: Day) -> bool
-        ensures { result ≡ le_z self.0 o.0 }
-    {
-        self.0 <= o.0
-    }
-
-    pub fn is(self, o: Day) -> bool
-        ensures { result ≡ eq_z self.0 o.0 }
-    {
-        integers::is_same(self.0, o.0)
-    }
-
-    // How many days after the first: a day as a number that is not below 0.
-    pub fn since(self, first: Day) -> u64
-        requires { SFits w64 (self.0 -ℤ first.0) × (first.0 ≤ℤ self.0) }
-        ensures { result ≡ nat_abs (self.0 -ℤ first.0) }
-    {
-        integers::above(self.0, first.0)
     }
 }
 
 // A power: a height, a limit or a sum of heights.
-#[derive(Clone, Copy)]
+#[derive(Clone, Copy, PartialEq, Eq, PartialOrd, Ord)]
 pub struct Power(pub i64);
 
 // "height, limit from -1,000,000 to 1,000,000"
@@ -120,206 +94,193 @@ impl Power {
     pub const HIGH: Power = Power(1_000_000);
 
     // The ends that the definitions name are these constants.
-    pub fn ends() -> PowerSpan
+    pub fn ends() -> Span<Power>
         ensures constants { (result.low.0 ≡ Power.LOW.0) × (result.high.0 ≡ Power.HIGH.0) }
         ensures named { result ≡ power_span_of power_ends }
     {
-        PowerSpan {
+        Span {
             low: Power::LOW,
             high: Power::HIGH,
         }
     }
+}
 
-    pub fn plus(self, o: Power) -> Power
-        requires { SFits w64 (self.0 +ℤ o.0) }
-        ensures { result ≡ power (self.0 +ℤ o.0) }
-    {
+impl Add for Power {
+    type Output = Power;
+
+    ghost can_add = { λ a b. SFits w64 (a.0 +ℤ b.0) };
+
+    ghost add_gives = { λ a b r. r ≡ power (a.0 +ℤ b.0) };
+
+    fn add(self, o: Power) -> Power {
         Power(self.0 + o.0)
     }
+}
 
-    pub fn minus(self, o: Power) -> Power
-        requires { SFits w64 (self.0 -ℤ o.0) }
-        ensures { result ≡ power (self.0 -ℤ o.0) }
-    {
+impl Sub for Power {
+    type Output = Power;
+
+    ghost can_sub = { λ a b. SFits w64 (a.0 -ℤ b.0) };
+
+    ghost sub_gives = { λ a b r. r ≡ power (a.0 -ℤ b.0) };
+
+    fn sub(self, o: Power) -> Power {
         Power(self.0 - o.0)
     }
+}
 
-    pub fn negated(self) -> Power
-        requires { SFits w64 (neg_ℤ self.0) }
-        ensures { result ≡ negated_power self }
-    {
-        Power(integers::negated(self.0))
-    }
+impl Neg for Power {
+    type Output = Power;
 
-    pub fn larger(self, o: Power) -> Power
-        ensures { result ≡ power (larger self.0 o.0) }
-    {
-        Power(integers::larger_of(self.0, o.0))
-    }
+    ghost can_neg = { λ a. SFits w64 (neg_ℤ a.0) };
 
-    pub fn smaller(self, o: Power) -> Power
-        ensures { result ≡ power (smaller self.0 o.0) }
-    {
-        Power(integers::smaller_of(self.0, o.0))
-    }
+    ghost neg_gives = { λ a r. r ≡ negated_power a };
 
-    pub fn below(self, o: Power) -> bool
-        ensures { result ≡ lt_z self.0 o.0 }
-    {
-        self.0 < o.0
-    }
-
-    pub fn not_above(self, o: Power) -> bool
-        ensures { result ≡ le_z self.0 o.0 }
-    {
-        self.0 <= o.0
-    }
-
-    pub fn is(self, o: Power) -> bool
-        ensures { result ≡ eq_z self.0 o.0 }
-    {
-        integers::is_same(self.0, o.0)
-    }
-
-    // "a limit outside its ends"
-    pub fn fits(self) -> bool
-        ensures { result ≡ within power_ends self.0 }
-    {
-        Power::LOW.not_above(self) && self.not_above(Power::HIGH)
-    }
-
-    // How much above the least: a power as a number that is not below 0.
-    pub fn above(self, least: Power) -> u64
-        requires { SFits w64 (self.0 -ℤ least.0) × (least.0 ≤ℤ self.0) }
-        ensures { result ≡ nat_abs (self.0 -ℤ least.0) }
-    {
-        integers::above(self.0, least.0)
+    fn neg(self) -> Power {
+        Power(-self.0)
     }
 }
 
-// A range of days: "a lowest and highest value (inclusive, lowest not above highest)".
-#[derive(Clone, Copy)]
-pub struct Span {
-    pub low: Day,
-    pub high: Day,
+// What days and powers have in common: each is a number, and a range of them is told by its two ends.
+pub trait Number: Copy {
+    ghost number: { Self → ℤ };
+
+    ghost numbered: { ℤ → Self };
+
+    fn number(self) -> i64
+        ensures { result ≡ number self };
+
+    fn numbered(x: i64) -> Self
+        ensures { result ≡ numbered x };
+
+    // How far this lies above the least: a number that is not below 0.
+    fn above(self, least: Self) -> u64
+        requires { number least ≤ℤ number self }
+        ensures { result ≡ nat_abs (number self -ℤ number least) }
+    {
+        self.number().abs_diff(least.number())
+    }
 }
 
-impl Span {
-    pub fn cut_below(self, d: Day) -> Span
+impl Number for Day {
+    ghost number = { λ d. d.0 };
+
+    ghost numbered = { day };
+
+    fn number(self) -> i64 {
+        self.0
+    }
+
+    fn numbered(x: i64) -> Day {
+        Day(x)
+    }
+}
+
+impl Number for Power {
+    ghost number = { λ p. p.0 };
+
+    ghost numbered = { power };
+
+    fn number(self) -> i64 {
+        self.0
+    }
+
+    fn numbered(x: i64) -> Power {
+        Power(x)
+    }
+}
+
+// A range of days or of powers: "a lowest and highest value (inclusive, lowest not above highest)".
+#[derive(Clone, Copy, PartialEq, Eq)]
+pub struct Span<T> {
+    pub low: T,
+    pub high: T,
+}
+
+impl<T: Number> Span<T> {
+    // "a task's range is outside its ends, or low above high"
+    #[tactic(auto, unfolding(integers::specs::Hull::fits))]
+    pub fn fits(self, ends: Span<T>) -> bool
+        ensures { result ≡ fits (range (T.number ends.low) (T.number ends.high)) (range (T.number self.low) (T.number self.high)) }
+    {
+        let low = self.low.number();
+        let high = self.high.number();
+        ends.low.number() <= low && (low <= high && high <= ends.high.number())
+    }
+}
+
+impl Span<Day> {
+    pub fn is_empty(self) -> bool
+        ensures { result ≡ empty_span self }
+    {
+        self.high < self.low
+    }
+
+    #[tactic(auto, unfolding(crate::specs::Days::cut_below))]
+    pub fn cut_below(self, d: Day) -> Span<Day>
         ensures { result ≡ cut_below d.0 self }
     {
-        let low = self.low;
-        let high = self.high;
         Span {
-            low: low.larger(d),
-            high: high,
+            low: self.low.max(d),
+            ..self
         }
     }
 
-    pub fn cut_above(self, d: Day) -> Span
+    #[tactic(auto, unfolding(crate::specs::Days::cut_above))]
+    pub fn cut_above(self, d: Day) -> Span<Day>
         ensures { result ≡ cut_above d.0 self }
     {
-        let low = self.low;
-        let high = self.high;
         Span {
-            low: low,
-            high: high.smaller(d),
+            high: self.high.min(d),
+            ..self
         }
     }
 
-    pub fn cut_to(self, low: Day, high: Day) -> Span
+    #[tactic(auto, unfolding(crate::specs::Days::cut_to))]
+    pub fn cut_to(self, low: Day, high: Day) -> Span<Day>
         ensures { result ≡ cut_to low.0 high.0 self }
     {
         self.cut_below(low).cut_above(high)
     }
-
-    pub fn is_empty(self) -> bool
-        ensures { result ≡ empty_span self }
-    {
-        let low = self.low;
-        let high = self.high;
-        high.before(low)
-    }
-
-    // "a task's range is outside its ends, or low above high"
-    pub fn fits(self, ends: Span) -> bool
-        ensures { result ≡ fits (days_of ends) (days_of self) }
-    {
-        let least = ends.low;
-        let low = self.low;
-        let high = self.high;
-        least.not_after(low) && (low.not_after(high) && high.not_after(ends.high))
-    }
-
-    // "changes nothing": the same two ends.
-    pub fn is(self, o: Span) -> bool
-        ensures { result ≡ same_range (days_of self) (days_of o) }
-    {
-        let low = self.low;
-        let high = self.high;
-        low.is(o.low) && high.is(o.high)
-    }
 }
 
-// A range of powers.
-#[derive(Clone, Copy)]
-pub struct PowerSpan {
-    pub low: Power,
-    pub high: Power,
-}
+// "every height and limit negated and each height's two ends swapped": exact at both ends of the symmetric range
+impl Neg for Span<Power> {
+    type Output = Span<Power>;
 
-impl PowerSpan {
-    pub fn fits(self, ends: PowerSpan) -> bool
-        ensures { result ≡ fits (powers_of ends) (powers_of self) }
-    {
-        let least = ends.low;
-        let low = self.low;
-        let high = self.high;
-        least.not_above(low) && (low.not_above(high) && high.not_above(ends.high))
-    }
+    ghost can_neg = { λ s. SFits w64 (neg_ℤ s.low.0) × SFits w64 (neg_ℤ s.high.0) };
 
-    pub fn is(self, o: PowerSpan) -> bool
-        ensures { result ≡ same_range (powers_of self) (powers_of o) }
-    {
-        let low = self.low;
-        let high = self.high;
-        low.is(o.low) && high.is(o.high)
-    }
+    ghost neg_gives = { λ s r. r ≡ negated_powers s };
 
-    // "every height and limit negated and each height's two ends swapped": exact at both ends of the symmetric range
-    pub fn negated(self) -> PowerSpan
-        requires { SFits w64 (neg_ℤ self.low.0) × SFits w64 (neg_ℤ self.high.0) }
-        ensures { result ≡ negated_powers self }
-    {
-        let low = self.low;
-        let high = self.high;
-        PowerSpan {
-            low: high.negated(),
-            high: low.negated(),
+    #[tactic(auto, unfolding(crate::specs::Powers::negated_powers))]
+    fn neg(self) -> Span<Power> {
+        Span {
+            low: -self.high,
+            high: -self.low,
         }
     }
 }
 
 // "Each has a non-empty set of resources it may be placed on, and a lowest and highest value (inclusive, lowest not above highest) for origin,
 // duration, end and height."
-#[derive(Clone, Copy)]
+#[derive(Clone, Copy, PartialEq, Eq)]
 pub struct Task {
     pub set: u64,
-    pub origin: Span,
-    pub duration: Span,
-    pub end: Span,
-    pub height: PowerSpan,
+    pub origin: Span<Day>,
+    pub duration: Span<Day>,
+    pub end: Span<Day>,
+    pub height: Span<Power>,
 }
 
 // "A resource gets a kind, plain or held": on a held one the limit must hold between the tasks too.
-#[derive(Clone, Copy)]
+#[derive(Clone, Copy, PartialEq, Eq)]
 pub enum Kind {
     Plain,
     Held,
 }
 
 // "Each has an identifier (any signed 32-bit number, each different) and a limit"; and a kind.
-#[derive(Clone, Copy)]
+#[derive(Clone, Copy, PartialEq, Eq)]
 pub struct Resource {
     pub id: i32,
     pub kind: Kind,
@@ -327,7 +288,7 @@ pub struct Resource {
 }
 
 // "resource place (2 bytes), first day (4), limit (4)": from that day on the resource at that place has this limit.
-#[derive(Clone, Copy)]
+#[derive(Clone, Copy, PartialEq, Eq)]
 pub struct Band {
     pub place: usize,
     pub from: Day,
@@ -335,7 +296,7 @@ pub struct Band {
 }
 
 // "A sense for the whole plan: 0 at most, 1 at least."
-#[derive(Clone, Copy)]
+#[derive(Clone, Copy, PartialEq, Eq)]
 pub enum Sense {
     AtMost,
     AtLeast,
@@ -361,7 +322,7 @@ pub fn most_counts() -> Counts
 }
 
 // The values of a task, in the order in which they are taken when one has run out.
-#[derive(Clone, Copy)]
+#[derive(Clone, Copy, PartialEq, Eq)]
 pub enum Value {
     Origin,
     Duration,
@@ -370,15 +331,8 @@ pub enum Value {
     Set,
 }
 
-// One task after a step: what is left of it, or the first value of which nothing is left.
-#[derive(Clone, Copy)]
-pub enum Narrowed {
-    Kept(Task),
-    RanOut(Value),
-}
-
 // "Numbered refusals", in the order of their numbers; what a case holds is its place.
-#[derive(Clone, Copy)]
+#[derive(Clone, Copy, Debug, PartialEq, Eq)]
 pub enum Refusal {
     TooManyTasks,
     ResourceCount,
@@ -422,32 +376,30 @@ impl Refusal {
         ensures { result ≡ place self }
     {
         match self {
-            Refusal::RepeatedIdentifier(k) => k,
-            Refusal::LimitOutside(k) => k,
-            Refusal::RangeOutside(k) => k,
-            Refusal::SetOutside(k) => k,
-            Refusal::WrongMark(k) => k,
-            Refusal::CutShort(k) => k,
-            Refusal::BandOutside(k) => k,
-            Refusal::TooManyTasks => 0,
-            Refusal::ResourceCount => 0,
-            Refusal::NoPlan => 0,
-            Refusal::BufferShort => 0,
-            Refusal::ListShort => 0,
-            Refusal::NoSuchResource => 0,
+            Refusal::RepeatedIdentifier(k)
+            | Refusal::LimitOutside(k)
+            | Refusal::RangeOutside(k)
+            | Refusal::SetOutside(k)
+            | Refusal::WrongMark(k)
+            | Refusal::CutShort(k)
+            | Refusal::BandOutside(k) => k,
+            _ => 0,
         }
     }
 }
 
-// What a check answers: accepted, or the first refusal.
-#[derive(Clone, Copy)]
-pub enum Checked {
-    Accepted,
-    Refused(Refusal),
+// The line of a refusal: its number and its place.
+impl fmt::Display for Refusal {
+    fn fmt<W: fmt::Write>(&self, f: &mut fmt::Formatter<W>) -> fmt::Result {
+        write!(f, "refused {} {}", self.number(), self.place())
+    }
 }
 
-// What a caller can ask for.
-#[derive(Clone, Copy)]
+impl Error for Refusal {}
+
+// What a caller can ask for. Each call answers how many passes settling made, or how many it makes at most (0 for every other call, and where the passes
+// that settling may make were too few); or one refusal.
+#[derive(Clone, Copy, PartialEq, Eq)]
 pub enum Call {
     Check,
     Balance,
@@ -460,13 +412,34 @@ pub enum Call {
     MostPasses,
 }
 
-// What a call answers: done, with the passes that settling made or those that it makes at most (0 for every other call, and where the passes that
-// settling may make were too few); or one refusal.
-#[derive(Clone, Copy)]
-pub enum Answer {
-    Done(u64),
-    Refused(Refusal),
-}
+// What stands in an array where no task, resource or band has been put.
+const NO_DAYS: Span<Day> = Span {
+    low: Day(0),
+    high: Day(0),
+};
+
+pub const NO_TASK: Task = Task {
+    set: 0,
+    origin: NO_DAYS,
+    duration: NO_DAYS,
+    end: NO_DAYS,
+    height: Span {
+        low: Power(0),
+        high: Power(0),
+    },
+};
+
+pub const NO_RESOURCE: Resource = Resource {
+    id: 0,
+    kind: Kind::Plain,
+    limit: Power(0),
+};
+
+pub const NO_BAND: Band = Band {
+    place: 0,
+    from: Day(0),
+    limit: Power(0),
+};
 
 // A set of resources is a number of so many bits: bit k is resource k.
 pub const SET_BITS: u64 = 64;

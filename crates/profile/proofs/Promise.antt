@@ -1,15 +1,21 @@
 -- The promise: the stretches swept from a resource's sorted events tell each of its tasks what the page says of its days.
+use native.Mathlib.Omega.{arith}
 use mathlib.Core.Path.{◌≡◌, sym, ◌∙◌}
 use mathlib.Core.Bool.{Bool, true, false, not}
 use mathlib.Core.List.{List, ◌++◌}
 use Prim.Native.Nat.{ℕ, ◌≤◌, ◌<◌}
-use native.Mathlib.Omega.{arith}
 use lib.Dec.{ltb}
 use lib.IntN.{ℤ, pos, neg_ℤ, ◌+ℤ◌, ◌-ℤ◌, +ℤ_idl}
 use lib.ListN.{length, take, get_or}
-use lib.Seq.{length-take-le, get_or-take}
 use lib.Signed.{◌≤ℤ◌, ◌<ℤ◌, le_z, lt_z}
 use borrow.Author.Tests.{ltb-true, ltb-false}
+use Rattle.std.specs.Prelude.{Some, None}
+use Rattle.std.specs.List.{list_any, position, position_or_len}
+use Rattle.std.proofs.lemmas.List.{get_or_default}
+use Rattle.std.proofs.lemmas.Grind.{common_steps}
+use Rattle.std.proofs.lemmas.List.Folds.{Any-from_list_any, list_any_at}
+use Rattle.std.proofs.lemmas.List.Quantifiers.{position-Some}
+use Rattle.std.proofs.lemmas.List.Sums.{fails_before_first}
 use Rattle.integers.specs.Tests.{and, any}
 use Rattle.integers.specs.Lists.{Each, In}
 use Rattle.integers.specs.Hull.{within}
@@ -20,11 +26,15 @@ use Rattle.integers.proofs.Tests.{clash, by_cases, false_in, and_first, and_in, 
 use Rattle.integers.proofs.Lists.{Place, any_place, each_in, each_at, each_so, each_all}
 use Rattle.integers.proofs.Hull.{within_is}
 use Rattle.integers.proofs.Sums.{sum_append}
+use Rattle.plan.specs.declared.Band.{Band}
+use Rattle.plan.specs.declared.Kind.{Kind}
 use Rattle.plan.specs.declared.Task.{Task}
+use Rattle.plan.specs.Powers.{power_ends}
 use Rattle.plan.specs.Sets.{only}
 use Rattle.plan.specs.Tasks.{Bounded}
 use Rattle.plan.proofs.Sets.{only_has}
-use Rattle.rules.specs.Frame.{Floor}
+use Rattle.rules.specs.Frame.{limit_from, Floor, floor}
+use Rattle.rules.specs.Rises.{Banded}
 use Rattle.rules.specs.Step.{running, total, counts, shortfall, listed_days}
 use Rattle.rules.proofs.Days.{between}
 use Rattle.rules.proofs.TaskDay.{possible_is, sure_in}
@@ -43,11 +53,13 @@ use Rattle.events.proofs.Spans.{surely_in}
 use Rattle.events.proofs.Adds.{up_to, sure_one, keys_power, keys_sure}
 use Rattle.events.proofs.Days.{on_days, sure_days}
 use Rattle.events.proofs.Covers.{reach_of, extremes_over, extremes_cover, keys_within}
+use Rattle.levels.specs.Levels.{band_keys}
+use Rattle.held.specs.Held.{held_keys}
 use Rattle.profile.specs.declared.Level.{Level}
 use Rattle.profile.specs.Sweep.{level, tight_in, swept_from, Sweeps}
-use Rattle.profile.specs.Promise.{FirstShort, Profile}
+use Rattle.profile.specs.Promise.{FirstShort, Profile, falls_short}
 use Rattle.profile.proofs.Calm.{calm_quiet}
-use Rattle.profile.proofs.Turns.{Turns}
+use Rattle.profile.proofs.Turns.{Turns, floor_turns}
 use Rattle.profile.proofs.Spread.{level_on, apart, Says, Spread, chain_ordered, chain_rises, swept_spread}
 
 -- ---- a day that cuts no stretch
@@ -230,32 +242,36 @@ module _ (r : ℕ) (limit : Floor) (x : ℤ) (cs : List ℕ) (ts : List Task) (b
   on_first_day : (k : ℕ) → k < length told → on_day (first_day_lem k) (get_or told k no_stretch) ≡ true
   on_first_day k h = on_in (get_or told k no_stretch) (first_day_lem k) (omega z) (told_at k h).filled
 
-  module _ (k : ℕ) (w : FirstShort told k) where
-    -- the first day of the first short stretch is a day of shortfall
-    short_there : k < length told → shortfall r limit ts (first_day_lem k) ≡ true
-    short_there h =
-        let e = tight_at k h (first_day_lem k) (on_first_day k h) in
-        let l = w.there h in
-        short_tight r limit ts (first_day_lem k) ∙ lt_z_in (tight_on r limit ts (first_day_lem k)) (pos 0) (omega z)
+  -- the first day of a stretch that falls short is a day of shortfall
+  short_there : (k : ℕ) → k < length told → (get_or told k no_stretch).tight.0 <ℤ pos 0 → shortfall r limit ts (first_day_lem k) ≡ true
+  short_there k h l =
+      let e = tight_at k h (first_day_lem k) (on_first_day k h) in
+      short_tight r limit ts (first_day_lem k) ∙ lt_z_in (tight_on r limit ts (first_day_lem k)) (pos 0) (omega z)
 
-    -- and a day of shortfall lies in no stretch before it
+  -- some stretch falls short where some day does
+  short_is : list_any falls_short told ≡ any (shortfall r limit ts) (listed_days ts)
+  short_is =
+      same_test (list_any falls_short told) (any (shortfall r limit ts) (listed_days ts))
+      (λ e.
+      let p = Any-from_list_any falls_short told e in
+      let n : (get_or told p.0 no_stretch) ≡ p.1 = get_or_default told p.0 no_stretch p.1 p.2 ∙ p.3 in
+      let f : (get_or told p.0 no_stretch).tight.0 <ℤ pos 0 = rw n (omega (z, p.4)) in
+      short_listed (first_day_lem p.0) (short_there p.0 p.2 f))
+      (λ a.
+      let d = any_out (shortfall r limit ts) (listed_days ts) a in
+      let p = short_place d.0 d.1 in
+      let t = tight_at p.at p.inside d.0 p.holds in
+      let l = tight_short d.0 d.1 in
+      list_any_at falls_short told p.at no_stretch p.inside (lt_z_in (get_or told p.at no_stretch).tight.0 (pos 0) (omega z)))
+
+  module _ (k : ℕ) (w : FirstShort told k) where
+    -- a day of shortfall lies in no stretch before the first that falls short
     short_after : (i : ℤ) (e : shortfall r limit ts i ≡ true) → k ≤ (short_place i e).at
     short_after i e =
         let p = short_place i e in
         let t = tight_at p.at p.inside i p.holds in
         let l = tight_short i e in
         by_cases (ltb p.at k) (λ g. absurd (let b = w.before p.at (ltb-true p.at k g) in omega z)) (ltb-false p.at k)
-
-    short_is : ltb k (length told) ≡ any (shortfall r limit ts) (listed_days ts)
-    short_is =
-        by_cases (ltb k (length told))
-        (λ e. e ∙ sym (short_listed (first_day_lem k) (short_there (ltb-true k (length told) e))))
-        (λ e.
-        e ∙ sym (false_in (any (shortfall r limit ts) (listed_days ts)) λ a.
-        let d = any_out (shortfall r limit ts) (listed_days ts) a in
-        let m = short_after d.0 d.1 in
-        let n = (short_place d.0 d.1).inside in
-        omega (arith, ltb-false k (length told) e)))
 
     -- no earlier day is one
     short_first : (i : ℤ) → i <ℤ first_day_lem k → shortfall r limit ts i ≡ false
@@ -266,38 +282,52 @@ module _ (r : ℕ) (limit : Floor) (x : ℤ) (cs : List ℕ) (ts : List Task) (b
         let b = chain_rises here.low.0 told spread.chain k p.at (short_after i e) p.inside in
         omega z
 
-  pub profile_of : (k : ℕ) → FirstShort told k → Profile r limit ts told (ltb k (length told))
-  profile_of k v =
+  pub profile_of : Profile r limit ts told (list_any falls_short told)
+  profile_of =
       record {
-        short_is = short_is k v;
-        day = λ q u l. record { holds = short_there q u l; first = short_first q u };
+        short_is = short_is;
+        day = λ k w h. record { holds = short_there k h (w.there h); first = short_first k w };
         tells = tells;
       }
 
--- ---- as the code has them: the events and the changes in the first keys, the stretches in the first rows
-pub profiled : (r : ℕ) (limit : Floor) (x : ℤ) (cs : List ℕ) (ts : List Task) (ks : List ℕ) (e : Extremes) (ss : List Stretch) (m k : ℕ) →
-    Each Bounded ts →
-    Turns r ts (reach_of r e) limit x cs →
-    ks ≡ keys_of r ts ++ cs →
-    e ≡ extremes_of r no_extremes ts →
-    Sweeps e (neg_ℤ x) ks ss m →
-    FirstShort (take m ss) k →
-    Profile r limit ts (take m ss) (ltb k m)
-profiled r limit x cs ts ks e ss m k bs turns p q w s =
-    let o : Sorted (keys_of r ts ++ cs) w.keys = rw p at w.sorted in
-    let c = rw q at w.are in
-    let l : length (take m ss) ≡ m = length-take-le m ss w.few in
-    rw (← c, l) at (profile_of r limit x cs ts bs (rw q at turns) w.keys o k (rw c at s))
+-- ---- the first that falls short
+-- none is: no stretch falls short
+pub first_none : (ss : List Stretch) → None ≡ position falls_short ss → list_any falls_short ss ≡ false
+first_none ss o =
+    false_in (list_any falls_short ss) λ e.
+    let p = Any-from_list_any falls_short ss e in
+    let n : (get_or ss p.0 no_stretch) ≡ p.1 = get_or_default ss p.0 no_stretch p.1 p.2 ∙ p.3 in
+    let f : falls_short (get_or ss p.0 no_stretch) ≡ true = rw n p.4 in
+    let b : length ss ≤ position_or_len falls_short ss = grind (arith, common_steps) in
+    clash (falls_short (get_or ss p.0 no_stretch)) f (fails_before_first falls_short ss p.0 no_stretch (omega (arith, b, p.2)))
 
--- the first short of all the rows, found among the first n
-pub first_in : (ss : List Stretch) (n k : ℕ) → n ≤ length ss → k ≤ n →
-    ((q : ℕ) → q < k → pos 0 ≤ℤ (get_or ss q no_stretch).tight.0) →
-    (k < n → (get_or ss k no_stretch).tight.0 <ℤ pos 0) →
-    FirstShort (take n ss) k
-first_in ss n k h l before there =
-    let e = length-take-le n ss h in
-    record {
-      within = omega (arith, e);
-      before = λ q g. rw (get_or-take n ss q no_stretch (omega arith)) (before q g);
-      there = λ g. let i : k < n = omega (arith, e) in rw (get_or-take n ss k no_stretch i) (there i);
-    }
+-- one is: it falls short, and none before it
+module _ (ss : List Stretch) (k : ℕ) (o : Some k ≡ position falls_short ss) where
+  pub first_inside : k < length ss
+  first_inside = (position-Some falls_short ss k no_stretch (sym o)).0
+
+  pub first_some : list_any falls_short ss ≡ true
+  first_some = let p = position-Some falls_short ss k no_stretch (sym o) in list_any_at falls_short ss k no_stretch p.0 p.1
+
+  pub first_is : FirstShort ss k
+  first_is =
+      let p = position-Some falls_short ss k no_stretch (sym o) in
+      record {
+        within = omega (arith, p.0);
+        before = λ q h. let b = p.2 q h in omega z;
+        there = λ h. let b = p.1 in omega z;
+      }
+
+-- ---- as the code has them: the events, then the changes in the first keys; the stretches in the first places
+pub profiled : (r : ℕ) (k : Kind) (x : ℤ) (bs : List Band) (ts : List Task) (e : Extremes) (ks : List ℕ) (ss : List Stretch) (m : ℕ) →
+    Banded r bs → Within power_ends x → Each Bounded ts →
+    e ≡ extremes_of r no_extremes ts →
+    ks ≡ keys_of r ts ++ (held_keys r k ts ++ band_keys r e.low.0 e.high.0 x bs) →
+    Sweeps e (neg_ℤ (limit_from r x bs e.low.0)) ks ss m →
+    Profile r (floor k (limit_from r x bs)) ts (take m ss) (list_any falls_short (take m ss))
+profiled r k x bs ts e ks ss m b w fit q p sweeps =
+    let here = extremes_of r no_extremes ts in
+    let cs = held_keys r k ts ++ band_keys r here.low.0 here.high.0 x bs in
+    let start = limit_from r x bs here.low.0 in
+    let swept : Sweeps here (neg_ℤ start) (keys_of r ts ++ cs) ss m = rw (p, q) at sweeps in
+    rw (sym swept.are) at (profile_of r (floor k (limit_from r x bs)) start cs ts fit (floor_turns r k x bs ts b w fit) swept.keys swept.sorted)

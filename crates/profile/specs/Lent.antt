@@ -1,4 +1,4 @@
--- What the step of one resource asks, and what is lent to work in.
+-- What the step of one resource asks of its plan, and what is lent to work in.
 use Rattle.std.specs.Prelude.{List, ℕ, ◌+◌, ◌*◌, ◌≤◌, ◌<◌, length}
 use Rattle.integers.specs.Ends.{Within}
 use Rattle.plan.specs.declared.Band.{Band}
@@ -26,8 +26,7 @@ most_events tasks more = events_a_task * tasks + more
 abbrev pub most_more : ℕ
 most_more = held_events + most_bands
 
--- keys for every event, half as many for the sort, and a stretch up to each event and one behind the last
-pub record Lent (tasks more keys spare stretches : ℕ) : Type 0 where
+-- keys for every event, and a stretch up to each event and one behind the last
+pub record Lent (tasks more keys stretches : ℕ) : Type 0 where
   pub keys_long : most_events tasks more ≤ keys
-  pub spare_long : most_events tasks more ≤ 2 * spare
   pub stretches_long : most_events tasks more < stretches

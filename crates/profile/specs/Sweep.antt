@@ -41,7 +41,7 @@ swept e a v (k ∷ ks) = worthy e (stretch_in a (day_of k) v) ++ swept e (day_of
 abbrev pub swept_from : Extremes → ℤ → List ℕ → List Stretch
 swept_from e start ks = swept e e.low.0 (level start (pos 0)) ks
 
--- the first n rows hold what the keys, once they are in rising order, make
+-- the first n stretches are what the keys, once they are in rising order, make
 pub record Sweeps (e : Extremes) (start : ℤ) (ks : List ℕ) (ss : List Stretch) (n : ℕ) : Type 0 where
   pub keys : List ℕ
   pub sorted : Sorted ks keys

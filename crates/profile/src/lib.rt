@@ -3,8 +3,8 @@
 // some rule could touch are kept. Cost: n log n for n tasks and bands; no day is visited, and no task for a stretch.
 #![tactic(auto)]
 
-ghost use Rattle.std.specs.Prelude.{◌≡◌, ◌++◌, ◌+◌, ◌*◌, ◌≤◌, ◌<◌, ◌+ℤ◌, length, take};
-ghost use Rattle.std.specs.Int.Signed.{lt_z};
+ghost use Rattle.std.specs.Prelude.{◌≡◌, ◌++◌, ◌+◌, ◌*◌, ◌≤◌, ◌<◌, ◌+ℤ◌, length};
+ghost use Rattle.std.specs.List.{position};
 ghost use Rattle.std.specs.Int.{w64};
 ghost use Rattle.std.proofs.Common.{SFits};
 ghost use Rattle.integers.specs.Ends.{Within};
@@ -14,30 +14,32 @@ ghost use Rattle.plan.specs.Sets.{set_bits};
 ghost use Rattle.plan.specs.Tasks.{most_tasks, Bounded};
 ghost use Rattle.rules.specs.Frame.{limit_from, is_held, floor};
 ghost use Rattle.rules.specs.Rises.{Banded};
-ghost use Rattle.rows.specs.View.{tasks_of, bands_of};
-ghost use Rattle.stretches.specs.View.{stretches_of};
 ghost use Rattle.events.specs.Keys.{power_of, sure_of};
 ghost use Rattle.events.specs.Laid.{Laid};
 ghost use Rattle.levels.specs.Levels.{band_keys};
 ghost use Rattle.held.specs.Held.{room_if, held_keys};
 ghost use Rattle.profile.specs.Lent.{most_events, most_more, Lent, Asks};
-ghost use Rattle.profile.specs.Promise.{FirstShort, Profile};
+ghost use Rattle.profile.specs.Promise.{falls_short, Answered};
 ghost use Rattle.profile.specs.Sweep.{changed, tight_in, stretch_in, worth, worthy, swept_from, Sweeps};
 
 use events::{Count, Extremes};
 use levels::Levels;
-use plan::{Day, Kind, Power};
-use rows::{BandRow, TaskRow};
-use stretches::{Stretch, StretchRow};
+use plan::{Band, Day, Power, Resource, Task};
+use stretches::Stretch;
 
-// What is lent for the largest plan: keys for every event, half as many for the sort, and a stretch up to each event and one behind the last.
+// What is lent for the largest plan: keys for every event, and a stretch up to each event and one behind the last.
 pub const MOST_KEYS: usize = events::EVENTS_A_TASK * plan::MOST_TASKS
     + held::HELD_EVENTS
     + plan::MOST_BANDS;
 
-pub const MOST_SPARE: usize = MOST_KEYS / 2;
-
 pub const MOST_STRETCHES: usize = MOST_KEYS + 1;
+
+// What is lent to work in: whatever it holds before is of no account.
+#[derive(Drop)]
+pub struct Work<'a> {
+    pub keys: &'a mut [u64],
+    pub stretches: &'a mut [Stretch],
+}
 
 // ---- sweep
 
@@ -48,206 +50,170 @@ pub struct Level {
     pub sure: Count,
 }
 
+#[tactic(auto, unfolding(crate::specs::Sweep::changed))]
 fn changed(v: Level, k: u64) -> Level
     requires { SFits w64 (v.slack.0 +ℤ power_of k) × SFits w64 (v.sure.0 +ℤ sure_of k) }
     ensures { result ≡ changed v k }
 {
-    let slack = v.slack;
-    let sure = v.sure;
     Level {
-        slack: slack.plus(events::power_of(k)),
-        sure: sure.plus(events::sure_of(k)),
+        slack: v.slack + events::power_of(k),
+        sure: v.sure + events::sure_of(k),
     }
 }
 
+#[tactic(auto, unfolding(crate::specs::Sweep::tight_in))]
 fn tight_in(v: Level) -> Power
     ensures { result ≡ power (tight_in v) }
 {
-    let sure = v.sure;
-    if sure.some() { v.slack } else { stretches::BIG }
+    if Count(0) < v.sure {
+        v.slack
+    } else {
+        stretches::BIG
+    }
 }
 
+#[tactic(auto, unfolding(crate::specs::Sweep::stretch_in))]
 fn stretch_in(from: Day, to: Day, v: Level) -> Stretch
     ensures { result ≡ stretch_in from.0 to.0 v }
 {
-    let slack = v.slack;
     Stretch {
         from,
         to,
-        slack,
+        slack: v.slack,
         tight: tight_in(v),
     }
 }
 
-fn has_day(t: Stretch) -> bool
-    ensures { result ≡ lt_z t.from.0 t.to.0 }
-{
-    let from = t.from;
-    from.before(t.to)
-}
-
-// Whether some rule may touch some task on the stretch: that asks for more slack than it has, or for more where a day counts.
+// Whether it has a day, and some rule may touch some task on it: that asks for more slack than it has, or for more where a day counts.
+#[tactic(auto, unfolding(crate::specs::Sweep::worth))]
 fn is_worth(t: Stretch, e: Extremes) -> bool
     ensures { result ≡ worth e t }
 {
-    let slack = t.slack;
-    let tight = t.tight;
-    has_day(t) && (slack.below(e.bar) || tight.below(e.lift))
+    t.from < t.to && (t.slack < e.bar || t.tight < e.lift)
 }
 
 // the stretch, where it is worth it, behind the first n
-fn put_worthy(s: &mut [StretchRow], n: usize, t: Stretch, e: Extremes) -> usize
-    requires { n < length s.old }
-    ensures { Laid (stretches_of s.old) (stretches_of s.new) n result (worthy e t) }
+#[tactic(auto, using(events::proofs::Laid::laid_none, events::proofs::Laid::laid_one))]
+fn put_worthy(stretches: &mut [Stretch], n: usize, t: Stretch, e: Extremes) -> usize
+    requires { n < length stretches.old }
+    ensures { Laid stretches.old stretches.new n result (worthy e t) }
 {
-    if is_worth(t, e) {
-        stretches::put_stretch(s, n, t);
-        n + 1
-    } else {
-        n
+    if !is_worth(t, e) {
+        return n;
     }
+    stretches[n] = t;
+    n + 1
 }
 
 // the stretches that rising keys make, each with a start on which the sums have been added up
-fn sweep(keys: &[u64], start: Power, e: Extremes, s: &mut [StretchRow]) -> usize
-    requires enough { (length keys.now ≤ most_events most_tasks most_more) × (length keys.now < length s.old) }
+fn sweep(keys: &[u64], start: Power, e: Extremes, stretches: &mut [Stretch]) -> usize
+    requires enough { (length keys.now ≤ most_events most_tasks most_more) × (length keys.now < length stretches.old) }
     requires within { Within power_ends start.0 }
-    ensures laid { Laid (stretches_of s.old) (stretches_of s.new) 0 result (swept_from e start.0 keys.now) }
-    ensures upper_bound { result ≤ length s.new }
+    ensures laid { Laid stretches.old stretches.new 0 result (swept_from e start.0 keys.now) }
+    ensures upper_bound { result ≤ length stretches.new }
 {
     let mut v = Level {
         slack: start,
         sure: Count(0),
     };
     let mut from = e.low;
-    let mut n: usize = 0;
-    let mut j: usize = 0;
-    while j < keys.len() {
-        let k = keys[j];
-        let to = events::day_of(k);
-        let t = stretch_in(from, to, v);
-        n = put_worthy(s, n, t, e);
+    let mut n = 0;
+    for k in keys {
+        let to = events::day_of(*k);
+        n = put_worthy(stretches, n, stretch_in(from, to, v), e);
         from = to;
-        v = changed(v, k);
-        j += 1;
+        v = changed(v, *k);
     }
-    let t = stretch_in(from, e.high, v);
-    put_worthy(s, n, t, e)
+    put_worthy(stretches, n, stretch_in(from, e.high, v), e)
 }
 
-// the stretches that the first n events make, in any order
-fn sweep_events(
-    keys: &mut [u64],
-    n: usize,
-    spare: &mut [u64],
-    start: Power,
-    e: Extremes,
-    s: &mut [StretchRow],
-) -> usize
-    requires enough { (n ≤ length keys.old) × (n ≤ most_events most_tasks most_more) × (n ≤ 2 * length spare.old) × (n < length s.old) }
+// the stretches that events make, in any order
+fn sweep_events(keys: &mut [u64], start: Power, e: Extremes, stretches: &mut [Stretch]) -> usize
+    requires enough { (length keys.old ≤ most_events most_tasks most_more) × (length keys.old < length stretches.old) }
     requires within { Within power_ends start.0 }
-    ensures { Sweeps e start.0 (take n keys.old) (stretches_of s.new) result }
+    ensures { Sweeps e start.0 keys.old stretches.new result }
 {
-    sorting::sort(&mut keys[..n], spare);
-    sweep(&keys[..n], start, e, s)
-}
-
-// ---- shortfall
-
-// the first of n stretches whose days count and on which the hopes are below the limit, or n
-pub fn first_short(s: &[StretchRow], n: usize) -> usize
-    requires { n ≤ length s.now }
-    ensures { FirstShort (take n (stretches_of s.now)) result }
-{
-    let mut k: usize = 0;
-    while k < n {
-        let t = stretches::stretch_at(s, k);
-        let tight = t.tight;
-        // Tight is the slack where a day counts, and BIG elsewhere: below 0 it is a shortfall, and a day that was left out has none.
-        if tight.below(Power(0)) {
-            return k;
-        }
-        k += 1;
-    }
-    n
+    sorting::sort(keys);
+    sweep(keys, start, e, stretches)
 }
 
 // ---- all joined
 
-// How many stretches there are, and whether there is a shortfall.
-#[derive(Clone, Copy)]
-pub struct Profiled {
+// How many stretches there are, and the first on which the hopes fall short of the limit.
+#[derive(Clone, Copy, PartialEq, Eq)]
+pub struct Shortfall {
     pub stretches: usize,
-    pub short: bool,
+    pub first: usize,
 }
 
-// The keys of r's bands behind the first n, and its limit on the first day: its own where there is no band, as in most plans.
-fn put_levels(
-    b: &[BandRow],
-    r: u64,
-    limit: Power,
-    e: Extremes,
-    keys: &mut [u64],
-    n: usize,
-) -> Levels
-    requires { (n + length b.now ≤ length keys.old) × Banded r (bands_of b.now) × Within power_ends limit.0 }
-    ensures laid { Laid keys.old keys.new n result.events (band_keys r e.low.0 e.high.0 limit.0 (bands_of b.now)) }
-    ensures start_value { result.start ≡ power (limit_from r limit.0 (bands_of b.now) e.low.0) }
-    ensures events_bound { (result.events ≤ n + length b.now) × Within power_ends result.start.0 }
+// The first stretch whose days count and on which all hopes together are below the limit: tight is the slack where a day counts, and BIG elsewhere,
+// and a day that was left out has no shortfall.
+fn first_short(stretches: &[Stretch]) -> Option<usize>
+    ensures { result ≡ position falls_short stretches.now }
 {
-    if b.len() == 0 {
-        return levels::own_limit(n, limit);
-    }
-    levels::put_bands(b, r, limit, e.low, e.high, keys, n)
+    stretches.iter().position(|t| t.tight < Power(0))
 }
 
 // The keys of what is asked of r behind the first n: where it is held those of its span, then those of its bands; and its limit on the first day.
+#[tactic(auto, using(events::proofs::Laid::laid_then))]
 fn put_floor(
-    s: &[TaskRow],
-    b: &[BandRow],
+    tasks: &[Task],
+    bands: &[Band],
     r: u64,
-    limit: Power,
-    kind: Kind,
+    resource: Resource,
     e: Extremes,
     keys: &mut [u64],
     n: usize,
 ) -> Levels
-    requires enough { (r < set_bits) × (n + room_if (is_held kind) + length b.now ≤ length keys.old) × Banded r (bands_of b.now) × Within power_ends limit.0 }
-    requires each { Each Bounded (tasks_of s.now) }
-    ensures laid { Laid keys.old keys.new n result.events (held_keys r kind (tasks_of s.now) ++ band_keys r e.low.0 e.high.0 limit.0 (bands_of b.now)) }
-    ensures start_value { result.start ≡ power (limit_from r limit.0 (bands_of b.now) e.low.0) }
-    ensures events_bound { (result.events ≤ n + room_if (is_held kind) + length b.now) × Within power_ends result.start.0 }
+    requires enough { (r < set_bits) × (n + room_if (is_held resource.kind) + length bands.now ≤ length keys.old) × Banded r bands.now × Within power_ends resource.limit.0 }
+    requires each { Each Bounded tasks.now }
+    ensures laid { Laid keys.old keys.new n result.events (held_keys r resource.kind tasks.now ++ band_keys r e.low.0 e.high.0 resource.limit.0 bands.now) }
+    ensures start_value { result.start ≡ power (limit_from r resource.limit.0 bands.now e.low.0) }
+    ensures events_bound { (result.events ≤ n + room_if (is_held resource.kind) + length bands.now) × Within power_ends result.start.0 }
 {
-    let m = held::put_held(s, r, kind, keys, n);
-    put_levels(b, r, limit, e, keys, m)
+    let m = held::put_held(tasks, r, resource.kind, keys, n);
+    levels::put_bands(bands, r, resource.limit, e.low, e.high, keys, m)
 }
 
-// The stretches of resource r, in ss. What is lent in keys and spare is worked in, and what it holds is of no account.
-pub fn profile(
-    s: &[TaskRow],
-    b: &[BandRow],
+// How many stretches of resource r there are, in the first places; on a shortfall its first too. What the keys held before is of no account.
+fn put_stretches(
+    tasks: &[Task],
+    bands: &[Band],
     r: u64,
-    limit: Power,
-    kind: Kind,
+    resource: Resource,
     keys: &mut [u64],
-    spare: &mut [u64],
-    ss: &mut [StretchRow],
-) -> Profiled
-    requires asks { Asks r limit (bands_of b.now) (length s.now) }
-    requires lent { Lent (length s.now) (room_if (is_held kind) + length b.now) (length keys.old) (length spare.old) (length ss.old) }
-    requires each { Each Bounded (tasks_of s.now) }
-    ensures stretches_in_bounds { result.stretches ≤ length ss.new }
-    ensures profile { Profile r (floor kind (limit_from r limit.0 (bands_of b.now))) (tasks_of s.now) (take result.stretches (stretches_of ss.new)) result.short }
+    stretches: &mut [Stretch],
+) -> Result<usize, Shortfall>
+    requires asks { Asks r resource.limit bands.now (length tasks.now) }
+    requires lent { Lent (length tasks.now) (room_if (is_held resource.kind) + length bands.now) (length keys.old) (length stretches.old) }
+    requires each { Each Bounded tasks.now }
+    ensures { Answered r (floor resource.kind (limit_from r resource.limit.0 bands.now)) tasks.now stretches.new result }
 {
-    let q = events::collect(s, r, keys);
-    let n = q.events;
-    let e = q.extremes;
-    let l = put_floor(s, b, r, limit, kind, e, keys, n);
-    let start = l.start;
-    let m = sweep_events(keys, l.events, spare, start.negated(), e, ss);
-    let k = first_short(ss, m);
-    Profiled {
-        stretches: m,
-        short: k < m,
+    let c = events::collect(tasks, r, keys);
+    let l = put_floor(tasks, bands, r, resource, c.extremes, keys, c.events);
+    let n = sweep_events(&mut keys[..l.events], -l.start, c.extremes, stretches);
+    match first_short(&stretches[..n]) {
+        Some(first) => Err(Shortfall {
+            stretches: n,
+            first,
+        }),
+        None => Ok(n),
     }
+}
+
+// The same in what is lent.
+pub fn profile(
+    tasks: &[Task],
+    bands: &[Band],
+    r: u64,
+    resource: Resource,
+    work: &mut Work,
+) -> Result<usize, Shortfall>
+    requires asks { Asks r resource.limit bands.now (length tasks.now) }
+    requires lent { Lent (length tasks.now) (room_if (is_held resource.kind) + length bands.now) (length work.old.keys.now) (length work.old.stretches.now) }
+    requires each { Each Bounded tasks.now }
+    ensures lengths { (length work.new.keys.now ≡ length work.old.keys.now) × (length work.new.stretches.now ≡ length work.old.stretches.now) }
+    ensures answer { Answered r (floor resource.kind (limit_from r resource.limit.0 bands.now)) tasks.now work.new.stretches.now result }
+{
+    put_stretches(tasks, bands, r, resource, work.keys, work.stretches)
 }

@@ -1,3 +1,4 @@
 -- Laws of the reader.
+pub mod Handing
 pub mod Unique
 pub mod Walking

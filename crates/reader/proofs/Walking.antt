@@ -1,5 +1,6 @@
 -- WALKING the reader from the first byte to the last is reading the plan: a file is read as a plan exactly if the plan passes the checks and
 -- the reader hands out the plan's records one after another, of which the last ends with the file.
+use Rattle.plan.specs.Refusals.{accepted}
 use mathlib.Core.Path.{◌≡◌, refl, sym, ap, ◌∙◌, subst}
 use mathlib.Core.Bool.{false}
 use mathlib.Core.List.{List, [], ◌∷◌, ◌++◌, map, append-nil}
@@ -12,7 +13,6 @@ use borrow.Author.Tests.{le-ltb, ne_eqb}
 use Rattle.plan.specs.declared.Task.{Task}
 use Rattle.plan.specs.declared.Sense.{Sense}
 use Rattle.plan.specs.declared.Sense.TheVariants.{AtMost, AtLeast}
-use Rattle.plan.specs.declared.Checked.TheVariants.{Accepted}
 use Rattle.plan.specs.Tasks.{most_tasks, most_resources, most_bands}
 use Rattle.rules.specs.Frame.{Frame, resource_count}
 use Rattle.rules.specs.Calls.{check}
@@ -20,60 +20,40 @@ use Rattle.rules.proofs.Checks.{accepts, past_all}
 use Rattle.format.specs.declared.Mark.{Mark}
 use Rattle.format.specs.declared.Mark.TheVariants.{PL, LB, TK}
 use Rattle.format.specs.declared.Header.{Header}
-use Rattle.format.specs.Format.{Layout, resources, bands, tasks, size, marked, due_in, numbers_in, header_numbers, header_from, sense_number, sense_from, bands_from, tasks_from, file_length}
+use Rattle.format.specs.Format.{Layout, resources, bands, tasks, size, marked, due_in, numbers_in, sense_number, sense_from, bands_from, tasks_from, file_length}
 use Rattle.format.specs.Writing.{header_of}
 use Rattle.format.specs.Reading.{due, each_due, records_in, run_due, run_in, band_run, each_band_due, looked_at, bands_due, band_count, bands_in, header_in, header_due, frame_in, tasks_in, file_end, body_due, Read, read_header, read_body, read_after, read_plan}
 use Rattle.format.proofs.Records.{due_is, due_size, due_alone}
 use Rattle.format.proofs.Bands.{taken_in, run_is}
 use Rattle.format.proofs.Files.{Whole, whole, frame_count, tasks_count}
-use Rattle.cursor.specs.declared.Cursor.{Cursor}
 use Rattle.cursor.specs.declared.Record.{Record}
-use Rattle.cursor.specs.Handed.{cursor, record_in, handed, record_at, past_in, past_at}
-use Rattle.cursor.proofs.Due.{rest_none, stands, whole_handed, past_whole, alone_in, resource_in, plan_taken, resource_taken, band_taken, task_taken}
-use Rattle.reader.specs.Walking.{plan_record, resource_record, band_record, task_record, records_of, HandsOut}
+use Rattle.cursor.specs.Handed.{record_in, record_at, past_in, past_at}
+use Rattle.cursor.proofs.Due.{rest_none, stands, whole_handed, past_whole}
+use Rattle.reader.proofs.Handing.{Kind, plan_kind, resource_kind, band_kind, task_kind}
+use Rattle.reader.specs.Walking.{resource_record, band_record, task_record, records_of, HandsOut}
 
 -- ---- one record
--- how an element is handed out, by its layout: as what kind of record, and what follows where one of that kind is handed out
-record Kind {A : Type 0} (l : Layout A) (made : A → Cursor → Record) : Type 0 where
-  pub whole : (at : ℕ) (bs : List ℕ) → record_in (due_in l.due bs) at bs ≡ made (l.from (due_in l.due bs) (numbers_in l.due bs)) (cursor (at + size l.due))
-  pub taken : (at : ℕ) (bs : List ℕ) {x : A} {c : Cursor} → handed at bs ≡ made x c → (due (due_in l.due bs) at bs ≡ Accepted) × (x ≡ l.from (due_in l.due bs) (numbers_in l.due bs)) × (c.at ≡ at + size l.due)
-
-abbrev headers : Layout Header
-headers = record { mark = λ h. PL; numbers = header_numbers; due = PL; from = λ k. header_from }
-
-plan_kind : Kind headers plan_record
-plan_kind = record { whole = λ at bs. alone_in PL at bs refl; taken = λ at bs e. plan_taken at bs refl e }
-
-resource_kind : Kind resources resource_record
-resource_kind = record { whole = λ at bs. resource_in at bs; taken = λ at bs e. resource_taken at bs refl e }
-
-band_kind : Kind bands band_record
-band_kind = record { whole = λ at bs. alone_in LB at bs refl; taken = λ at bs e. band_taken at bs refl e }
-
-task_kind : (n : ℕ) → Kind (tasks n) task_record
-task_kind n = record { whole = λ at bs. alone_in TK at bs refl; taken = λ at bs e. task_taken at bs refl e }
-
 -- a record that is due is handed out, and the place past it is its size further on
-due_handed_out : (k : Mark) (file : List ℕ) (at : ℕ) → let j = due_in k (drop at file) in due j at (drop at file) ≡ Accepted → (record_at file at ≡ record_in j at (drop at file)) × (past_at file at ≡ at + size k)
+due_handed_out : (k : Mark) (file : List ℕ) (at : ℕ) → let j = due_in k (drop at file) in due j at (drop at file) ≡ accepted → (record_at file at ≡ record_in j at (drop at file)) × (past_at file at ≡ at + size k)
 unfolding record_at past_at
 due_handed_out k file at d =
     let bs = drop at file in
     let e = whole_handed (due_in k bs) at bs d in
     (e, ap (past_in at) e ∙ past_whole (due_in k bs) at bs ∙ ap (λ (n : ℕ). at + n) (due_size k bs))
 
-module _ {A : Type 0} {l : Layout A} {made : A → Cursor → Record} (w : Kind l made) (file : List ℕ) (to : ℕ) where
-  hands_one : (rest : List (Cursor → Record)) (at : ℕ) → let j = due_in l.due (drop at file) in due j at (drop at file) ≡ Accepted → HandsOut file (at + size l.due) rest to → HandsOut file at (made (l.from j (numbers_in l.due (drop at file))) ∷ rest) to
+module _ {A : Type 0} {l : Layout A} {made : A → ℕ → Record} (w : Kind l made) (file : List ℕ) (to : ℕ) where
+  hands_one : (rest : List (ℕ → Record)) (at : ℕ) → let j = due_in l.due (drop at file) in due j at (drop at file) ≡ accepted → HandsOut file (at + size l.due) rest to → HandsOut file at (made (l.from j (numbers_in l.due (drop at file))) ∷ rest) to
   hands_one rest at d h = let o = due_handed_out l.due file at d in rw o.1 (o.0 ∙ w.whole at (drop at file), h)
 
-  took_one : (rest : List (Cursor → Record)) (at : ℕ) (x : A) → HandsOut file at (made x ∷ rest) to → let j = due_in l.due (drop at file) in (due j at (drop at file) ≡ Accepted) × (x ≡ l.from j (numbers_in l.due (drop at file))) × HandsOut file (at + size l.due) rest to
+  took_one : (rest : List (ℕ → Record)) (at : ℕ) (x : A) → HandsOut file at (made x ∷ rest) to → let j = due_in l.due (drop at file) in (due j at (drop at file) ≡ accepted) × (x ≡ l.from j (numbers_in l.due (drop at file))) × HandsOut file (at + size l.due) rest to
   unfolding record_at
   took_one rest at x h =
       let t = w.taken at (drop at file) h.0 in
       (t.0, t.1, subst (λ (p : ℕ). HandsOut file p rest to) t.2 h.1)
 
   -- ---- so many records of one kind
-  record Taken (at : ℕ) (xs : List A) (rest : List (Cursor → Record)) : Type 0 where
-    pub due : run_due l file at (length xs) ≡ Accepted
+  record Taken (at : ℕ) (xs : List A) (rest : List (ℕ → Record)) : Type 0 where
+    pub due : run_due l file at (length xs) ≡ accepted
     pub held : run_in l file at (length xs) ≡ xs
     pub later : HandsOut file (at + length xs * size l.due) rest to
 
@@ -83,7 +63,7 @@ module _ {A : Type 0} {l : Layout A} {made : A → Cursor → Record} (w : Kind 
   one_further : (at n : ℕ) → at + size l.due + n * size l.due ≡ at + suc n * size l.due
   one_further at n = omega (arith, suc-mul n (size l.due))
 
-  hands_run : (rest : List (Cursor → Record)) (n at : ℕ) → run_due l file at n ≡ Accepted → HandsOut file (at + n * size l.due) rest to → HandsOut file at (map made (run_in l file at n) ++ rest) to
+  hands_run : (rest : List (ℕ → Record)) (n at : ℕ) → run_due l file at n ≡ accepted → HandsOut file (at + n * size l.due) rest to → HandsOut file at (map made (run_in l file at n) ++ rest) to
   unfolding each_due records_in
   hands_run rest zero at d h = subst (λ (p : ℕ). HandsOut file p rest to) (none_further at) h
   hands_run rest (suc n) at d h =
@@ -93,7 +73,7 @@ module _ {A : Type 0} {l : Layout A} {made : A → Cursor → Record} (w : Kind 
       let later = hands_run rest n (at + size k) (rw (drop-drop (size k) at file) at a.1) h' in
       hands_one (map made (records_in l n (drop (size k) (drop at file))) ++ rest) at a.0 (rw (drop-drop (size k) at file) later)
 
-  took_run : (rest : List (Cursor → Record)) (xs : List A) (at : ℕ) → HandsOut file at (map made xs ++ rest) to → Taken at xs rest
+  took_run : (rest : List (ℕ → Record)) (xs : List A) (at : ℕ) → HandsOut file at (map made xs ++ rest) to → Taken at xs rest
   unfolding each_due records_in
   took_run rest [] at h = record { due = refl; held = refl; later = subst (λ (p : ℕ). HandsOut file p rest to) (sym (none_further at)) h }
   took_run rest (x ∷ xs) at h =
@@ -107,7 +87,7 @@ module _ {A : Type 0} {l : Layout A} {made : A → Cursor → Record} (w : Kind 
       }
 
 -- a run of due records ends within the file
-run_within : (k : Mark) (file : List ℕ) (n at : ℕ) → at ≤ length file → each_due k n at (drop at file) ≡ Accepted → at + n * size k ≤ length file
+run_within : (k : Mark) (file : List ℕ) (n at : ℕ) → at ≤ length file → each_due k n at (drop at file) ≡ accepted → at + n * size k ≤ length file
 unfolding each_due
 run_within k file zero at h d = omega (arith, zero-mul (size k))
 run_within k file (suc n) at h d =
@@ -118,7 +98,7 @@ run_within k file (suc n) at h d =
     omega (arith, r, suc-mul n (size k))
 
 -- ---- the run of bands, which is told from what follows it by its marks
-bands_in_lem : (n most room k at : ℕ) (bs : List ℕ) → each_due LB n at bs ≡ Accepted → marked LB (drop (n * size LB) bs) ≡ false → n < most → k + n ≤ most_bands → k + n ≤ room → (each_band_due most room k at bs ≡ Accepted) × (band_run most bs ≡ n)
+bands_in_lem : (n most room k at : ℕ) (bs : List ℕ) → each_due LB n at bs ≡ accepted → marked LB (drop (n * size LB) bs) ≡ false → n < most → k + n ≤ most_bands → k + n ≤ room → (each_band_due most room k at bs ≡ accepted) × (band_run most bs ≡ n)
 unfolding each_due each_band_due band_run
 bands_in_lem n zero room k at bs d m l a b = (refl, absurd (omega arith))
 bands_in_lem zero (suc most) room k at bs d m l a b = (rw m, rw m)
@@ -160,7 +140,7 @@ module _ (file : List ℕ) (f : Frame) (ts : List Task) (w : Whole file f ts) wh
   abbrev k : ℕ
   k = bands_in h file
 
-  bands_each : run_due bands file (bands_from h.resources) k ≡ Accepted
+  bands_each : run_due bands file (bands_from h.resources) k ≡ accepted
   unfolding bands_in bands_due band_count
   bands_each = (run_is looked_at most_bands 0 (bands_from h.resources) (drop (bands_from h.resources) file) w.banded).due
 
@@ -195,7 +175,7 @@ module _ (file : List ℕ) (f : Frame) (ts : List Task) (w : Whole file f ts) wh
       rw header_same
       (hands_one plan_kind file (length file) (map resource_record (frame_in h file).resources ++ (map band_record (frame_in h file).bands ++ map task_record (tasks_in h file))) 0 (rw (due_alone PL file refl) w.first) resources_handed)
 
-pub read_walked : (file : List ℕ) (f : Frame) (ts : List Task) → read_plan file ≡ Read.Plan f ts → (check f ts ≡ Accepted) × HandsOut file 0 (records_of f ts) (length file)
+pub read_walked : (file : List ℕ) (f : Frame) (ts : List Task) → read_plan file ≡ Read.Plan f ts → (check f ts ≡ accepted) × HandsOut file 0 (records_of f ts) (length file)
 read_walked file f ts e = let w : Whole file f ts = whole e in (w.accepted, rw (w.frame, w.tasks) at (all_handed file f ts w))
 
 -- there the reader has no more to hand out
@@ -203,7 +183,7 @@ pub walk_ends : (file : List ℕ) → record_at file (length file) ≡ Record.En
 walk_ends file = sym (rest_none file (length file) (omega arith))
 
 -- ---- a plan that is walked is read
-module _ (file : List ℕ) (f : Frame) (ts : List Task) (ok : check f ts ≡ Accepted) (walked : HandsOut file 0 (records_of f ts) (length file)) where
+module _ (file : List ℕ) (f : Frame) (ts : List Task) (ok : check f ts ≡ accepted) (walked : HandsOut file 0 (records_of f ts) (length file)) where
   abbrev n : ℕ
   n = resource_count f
 
@@ -214,10 +194,10 @@ module _ (file : List ℕ) (f : Frame) (ts : List Task) (ok : check f ts ≡ Acc
   head = header_of f (length ts)
 
   -- the records after the first
-  abbrev others : List (Cursor → Record)
+  abbrev others : List (ℕ → Record)
   others = map resource_record f.resources ++ (map band_record f.bands ++ map task_record ts)
 
-  first : (due PL 0 file ≡ Accepted) × (head ≡ header_in file) × HandsOut file (size PL) others (length file)
+  first : (due PL 0 file ≡ accepted) × (head ≡ header_in file) × HandsOut file (size PL) others (length file)
   unfolding records_of header_in
   first = rw (due_alone PL file refl) at (took_one plan_kind file (length file) others 0 head walked)
 
@@ -230,7 +210,7 @@ module _ (file : List ℕ) (f : Frame) (ts : List Task) (ok : check f ts ≡ Acc
   last : Taken (task_kind n) file (length file) (tasks_from n count) ts []
   last = took_run (task_kind n) file (length file) [] ts (tasks_from n count) (rw append-nil banded.later)
 
-  bands_run : (bands_due most_bands file (bands_from n) ≡ Accepted) × (band_count file (bands_from n) ≡ count)
+  bands_run : (bands_due most_bands file (bands_from n) ≡ accepted) × (band_count file (bands_from n) ≡ count)
   unfolding bands_due band_count
   bands_run =
       let few = (accepts f ts ok).few_bands in
@@ -241,7 +221,7 @@ module _ (file : List ℕ) (f : Frame) (ts : List Task) (ok : check f ts ≡ Acc
   unfolding bands_in header_of
   bands_counted = bands_run.1
 
-  header_passes : header_due head ≡ Accepted
+  header_passes : header_due head ≡ accepted
   unfolding header_due header_of
   header_passes =
       let a = accepts f ts ok in
@@ -253,7 +233,7 @@ module _ (file : List ℕ) (f : Frame) (ts : List Task) (ok : check f ts ≡ Acc
         le-ltb most_resources n a.most,
       )
 
-  body_passes : body_due most_bands head file ≡ Accepted
+  body_passes : body_due most_bands head file ≡ accepted
   unfolding body_due header_of
   body_passes =
       simp (

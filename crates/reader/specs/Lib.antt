@@ -1,2 +1,3 @@
--- What the reader's theorem cites.
+-- What the reader's contracts and its theorem cite.
+pub mod Taking
 pub mod Walking

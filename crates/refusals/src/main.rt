@@ -2,156 +2,180 @@
 // comes first in the page's order.
 #![tactic(auto)]
 
-use plan::Checked;
-use rows::{BandRow, ResourceRow, TaskRow};
+ghost use Rattle.std.specs.Prelude.{◌<◌};
+
+use plan::{
+    Band, Day, Kind, MOST_BANDS, MOST_RESOURCES, MOST_TASKS, Power, Refusal, Resource, Span, Task,
+};
 use std::io;
 
-fn show(rt: &impl Print, e: Checked) -> io::Result<()> {
-    match e {
-        Checked::Accepted => println!(rt; "accepted"),
-        Checked::Refused(f) => println!(rt; "refused {} {}", f.number(), f.place()),
+fn show(rt: &impl Print, checked: Result<(), Refusal>) -> io::Result<()> {
+    match checked {
+        Ok(()) => println!(rt; "accepted"),
+        Err(f) => println!(rt; "{f}"),
     }
 }
 
-// Two tasks of the page's case 9: set, then low and high of origin, duration, end and height.
-fn tasks() -> [TaskRow; 2] {
-    [[1, 1, 2, 2, 2, 3, 4, 0, 1], [3, 0, 6, 2, 2, 2, 8, 0, 4]]
+fn days(low: i64, high: i64) -> Span<Day> {
+    Span {
+        low: Day(low),
+        high: Day(high),
+    }
 }
 
-// What a held resource's first cell has more than a plain one's.
-const HELD: i64 = 1 << 32;
-
-// Their resources, a plain and a held one: identifier and kind, and limit.
-fn resources() -> [ResourceRow; 2] {
-    [[7, 4], [9 + HELD, 3]]
+fn heights(low: i64, high: i64) -> Span<Power> {
+    Span {
+        low: Power(low),
+        high: Power(high),
+    }
 }
 
-// Bands of the first resource: place, first day and limit.
-fn bands() -> [BandRow; 2] {
-    [[0, 2, 5], [0, 4, 1]]
+// Two tasks of the page's case 9.
+fn tasks() -> [Task; 2] {
+    [
+        Task {
+            set: 1,
+            origin: days(1, 2),
+            duration: days(2, 2),
+            end: days(3, 4),
+            height: heights(0, 1),
+        },
+        Task {
+            set: 3,
+            origin: days(0, 6),
+            duration: days(2, 2),
+            end: days(2, 8),
+            height: heights(0, 4),
+        },
+    ]
+}
+
+fn plain(id: i32, limit: i64) -> Resource {
+    Resource {
+        id,
+        kind: Kind::Plain,
+        limit: Power(limit),
+    }
+}
+
+fn held(id: i32, limit: i64) -> Resource {
+    Resource {
+        kind: Kind::Held,
+        ..plain(id, limit)
+    }
+}
+
+// Their resources, a plain and a held one.
+fn resources() -> [Resource; 2] {
+    [plain(7, 4), held(9, 3)]
+}
+
+fn band(place: usize, from: i64, limit: i64) -> Band {
+    Band {
+        place,
+        from: Day(from),
+        limit: Power(limit),
+    }
+}
+
+// Bands of the first resource.
+fn bands() -> [Band; 2] {
+    [band(0, 2, 5), band(0, 4, 1)]
 }
 
 // ---- one list as given, the others as above
 
-fn show_resources(rt: &impl Print, q: &[ResourceRow]) -> io::Result<()> {
-    let b = bands();
-    let s = tasks();
-    show(rt, entry::check(q, &b, &s))
+fn show_resources(rt: &impl Print, resources: &[Resource]) -> io::Result<()> {
+    show(rt, entry::check(resources, &bands(), &tasks()))
 }
 
-fn show_bands(rt: &impl Print, b: &[BandRow]) -> io::Result<()> {
-    let q = resources();
-    let s = tasks();
-    show(rt, entry::check(&q, b, &s))
+fn show_bands(rt: &impl Print, bands: &[Band]) -> io::Result<()> {
+    show(rt, entry::check(&resources(), bands, &tasks()))
 }
 
-fn show_tasks(rt: &impl Print, s: &[TaskRow]) -> io::Result<()> {
-    let q = resources();
-    let b = bands();
-    show(rt, entry::check(&q, &b, s))
-}
-
-// As many as are counted, whatever the rows hold.
-fn show_counts(
-    rt: &impl Print,
-    task_count: usize,
-    resource_count: usize,
-    band_count: usize,
-    b: &[BandRow],
-) -> io::Result<()> {
-    let q = resources();
-    let s = tasks();
-    show(
-        rt,
-        entry::check_lists(task_count, resource_count, band_count, &q, b, &s),
-    )
+fn show_tasks(rt: &impl Print, tasks: &[Task]) -> io::Result<()> {
+    show(rt, entry::check(&resources(), &bands(), tasks))
 }
 
 // Refusals 1 and 2: too many tasks, then too few and too many resources; both faults together are 1.
 fn counts(rt: &impl Print) -> io::Result<()> {
-    let b = bands();
-    show_bands(rt, &b)?;
-    show_counts(rt, plan::MOST_TASKS + 1, 2, 2, &b)?;
-    show_counts(rt, plan::MOST_TASKS + 1, 0, 2, &b)?;
-    let q = resources();
-    show_resources(rt, &q[..0])?;
-    let many: [ResourceRow; plan::MOST_RESOURCES + 1] = [[7, 4]; plan::MOST_RESOURCES + 1];
-    show_resources(rt, &many)
+    show_bands(rt, &bands())?;
+    let many = [tasks()[0]; MOST_TASKS + 1];
+    show_tasks(rt, &many)?;
+    show(rt, entry::check(&[], &bands(), &many))?;
+    show_resources(rt, &[])?;
+    show_resources(rt, &[plain(7, 4); MOST_RESOURCES + 1])
 }
 
 // Refusals 3 and 4: an identifier repeats, a limit is outside; the identifiers come first, over all resources.
 fn limits(rt: &impl Print) -> io::Result<()> {
-    let twice: [ResourceRow; 3] = [[7, 4], [9, 3], [7 + HELD, 5]];
-    show_resources(rt, &twice)?;
-    let above: [ResourceRow; 2] = [[7, 4], [9, 1_000_001]];
-    show_resources(rt, &above)?;
-    let both: [ResourceRow; 2] = [[7, -1_000_001], [7, 3]];
-    show_resources(rt, &both)
+    show_resources(rt, &[plain(7, 4), plain(9, 3), held(7, 5)])?;
+    show_resources(rt, &[plain(7, 4), plain(9, 1_000_001)])?;
+    show_resources(rt, &[plain(7, -1_000_001), plain(7, 3)])
 }
 
 // Refusal 13: a band that starts on the day of the one before it, or stands at a lower place, lies outside its ends, or names no resource.
 fn levels(rt: &impl Print) -> io::Result<()> {
-    let twice: [BandRow; 2] = [[0, 2, 5], [0, 2, 1]];
-    show_bands(rt, &twice)?;
-    let back: [BandRow; 3] = [[0, 2, 5], [1, 2, 5], [0, 4, 1]];
-    show_bands(rt, &back)?;
-    let early: [BandRow; 2] = [[0, -100_001, 5], [0, 4, 1]];
-    show_bands(rt, &early)?;
-    let late: [BandRow; 2] = [[0, 100_000, 5], [1, 100_001, 1]];
-    show_bands(rt, &late)?;
-    let below: [BandRow; 2] = [[0, 2, -1_000_001], [0, 4, 1]];
-    show_bands(rt, &below)?;
-    let above: [BandRow; 2] = [[0, 2, 1_000_000], [0, 4, 1_000_001]];
-    show_bands(rt, &above)?;
-    let nowhere: [BandRow; 3] = [[0, 2, 5], [1, 2, 5], [2, 2, 5]];
-    show_bands(rt, &nowhere)
+    show_bands(rt, &[band(0, 2, 5), band(0, 2, 1)])?;
+    show_bands(rt, &[band(0, 2, 5), band(1, 2, 5), band(0, 4, 1)])?;
+    show_bands(rt, &[band(0, -100_001, 5), band(0, 4, 1)])?;
+    show_bands(rt, &[band(0, 100_000, 5), band(1, 100_001, 1)])?;
+    show_bands(rt, &[band(0, 2, -1_000_001), band(0, 4, 1)])?;
+    show_bands(rt, &[band(0, 2, 1_000_000), band(0, 4, 1_000_001)])?;
+    show_bands(rt, &[band(0, 2, 5), band(1, 2, 5), band(2, 2, 5)])
 }
 
-// One band more than there may be, each a day after the one before.
-fn many_bands() -> [BandRow; plan::MOST_BANDS + 1] {
-    let mut many: [BandRow; plan::MOST_BANDS + 1] = [[0, 0, 5]; plan::MOST_BANDS + 1];
-    let mut k: usize = 0;
-    while k < plan::MOST_BANDS + 1 {
-        many[k] = [0, k as i64, 5];
-        k += 1;
+// So many bands, each a day after the one before.
+fn rising<const N: usize>() -> [Band; N]
+    requires { N < 100 }
+{
+    let mut many = [band(0, 0, 5); N];
+    for (k, b) in many.iter_mut().enumerate() {
+        b.from = Day(k as i64);
     }
     many
 }
 
-// Refusal 13: a 65th band, in rows or only counted; behind one that is out of order, that one.
+const ONE_MORE: usize = MOST_BANDS + 1;
+
+const TWO_MORE: usize = MOST_BANDS + 2;
+
+// Refusal 13: a 65th band, the last or not; behind one that is out of order, that one.
 fn many_levels(rt: &impl Print) -> io::Result<()> {
-    let many = many_bands();
-    let most = &many[..plan::MOST_BANDS];
-    show_bands(rt, most)?;
-    show_bands(rt, &many)?;
-    show_counts(rt, 2, 2, plan::MOST_BANDS + 1, most)?;
-    let mut crossed = many;
-    crossed[3] = [0, 2, 5];
-    show_bands(rt, &crossed)
+    show_bands(rt, &rising::<MOST_BANDS>())?;
+    show_bands(rt, &rising::<ONE_MORE>())?;
+    let mut more = rising::<TWO_MORE>();
+    show_bands(rt, &more)?;
+    more[3] = band(0, 2, 5);
+    show_bands(rt, &more)
 }
 
 // Two faults: 4 before 13, and 13 before 5.
 fn meetings(rt: &impl Print) -> io::Result<()> {
-    let twice: [BandRow; 2] = [[0, 2, 5], [0, 2, 1]];
-    let above: [ResourceRow; 2] = [[7, 4], [9, 1_000_001]];
+    let twice = [band(0, 2, 5), band(0, 2, 1)];
+    let above = [plain(7, 4), plain(9, 1_000_001)];
     show(rt, entry::check(&above, &twice, &tasks()))?;
-    let crossed: [TaskRow; 2] = [[1, 2, 1, 2, 2, 3, 4, 0, 1], [3, 0, 6, 2, 2, 2, 8, 0, 4]];
+    let mut crossed = tasks();
+    crossed[0].origin = days(2, 1);
     show(rt, entry::check(&resources(), &twice, &crossed))
 }
 
 // Refusals 5 and 6: a range outside its ends or the wrong way round, a set that is empty or names a place beyond the list; task by
 // task, 5 before 6.
 fn ranges(rt: &impl Print) -> io::Result<()> {
-    let outside: [TaskRow; 2] = [
-        [1, 1, 2, 2, 2, 3, 4, 0, 1],
-        [3, 0, 6, 2, 10_001, 2, 8, 0, 4],
-    ];
+    let mut outside = tasks();
+    outside[1].duration = days(2, 10_001);
     show_tasks(rt, &outside)?;
-    let crossed: [TaskRow; 2] = [[0, 2, 1, 2, 2, 3, 4, 0, 1], [3, 0, 6, 2, 2, 2, 8, 0, 4]];
+    let mut crossed = tasks();
+    crossed[0].set = 0;
+    crossed[0].origin = days(2, 1);
     show_tasks(rt, &crossed)?;
-    let nowhere: [TaskRow; 2] = [[1, 1, 2, 2, 2, 3, 4, 0, 1], [0, 0, 6, 2, 2, 2, 8, 0, 4]];
+    let mut nowhere = tasks();
+    nowhere[1].set = 0;
     show_tasks(rt, &nowhere)?;
-    let beyond: [TaskRow; 2] = [[4, 1, 2, 2, 2, 3, 4, 0, 1], [3, 6, 0, 2, 2, 2, 8, 0, 4]];
+    let mut beyond = tasks();
+    beyond[0].set = 4;
+    beyond[1].origin = days(6, 0);
     show_tasks(rt, &beyond)
 }
 

@@ -1,4 +1,5 @@
--- A text put from the first place on, as the report's contract says it; rows for the most take every plan that is read.
+-- A text put from the first place on, as the report's contract says it; lists for the most take every plan that is read.
+use Rattle.std.specs.Prelude.{Ok, Err}
 use mathlib.Core.Path.{◌≡◌, refl, sym, ap, ◌∙◌}
 use mathlib.Core.List.{List}
 use Prim.Native.Nat.{ℕ, ◌≤◌}
@@ -8,8 +9,7 @@ use lib.ListN.{length, take}
 use lib.Seq.{sets, length-sets, length-take-le}
 use borrow.Author.Tests.{le-ltb}
 use Rattle.plan.specs.Tasks.{most_resources, most_bands, most_tasks}
-use Rattle.format.specs.declared.HeaderAnswer.{HeaderAnswer}
-use Rattle.format.specs.Reading.{read_header, lists_due, plan_after, read_plan, lent_after, read_lent}
+use Rattle.format.specs.Reading.{HeaderAnswer, read_header, lists_due, plan_after, read_plan, lent_after, read_lent}
 use Rattle.format.proofs.Files.{header_few}
 use Rattle.text.specs.Text.{Put}
 
@@ -21,10 +21,10 @@ told out text {later} {written} {r} p h e =
 
 after_most : (file : List ℕ) (a : HeaderAnswer) → read_header file ≡ a → lent_after most_resources most_bands most_tasks file a ≡ plan_after file a
 unfolding lists_due
-after_most file (HeaderAnswer.Counts h) e =
+after_most file (Ok h) e =
     let w = header_few file e in
     rw (le-ltb most_resources h.resources w.resources, le-ltb most_tasks h.tasks w.tasks)
-after_most file (HeaderAnswer.Refused f) e = refl
+after_most file (Err f) e = refl
 
 pub lent_most : (file : List ℕ) → read_lent most_resources most_bands most_tasks file ≡ read_plan file
 unfolding read_lent read_plan

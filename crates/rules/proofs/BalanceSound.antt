@@ -1,10 +1,10 @@
 -- Balance loses no choice with origin + duration = end.
+use Rattle.std.specs.Prelude.{Ok}
 use mathlib.Core.Path.{◌≡◌}
 use mathlib.Core.List.{List}
 use lib.IntN.{◌+ℤ◌, ◌-ℤ◌}
 use Rattle.integers.proofs.Z.{z, +z, -z, maxz, minz, lt_z_out}
 use Rattle.plan.specs.declared.Task.{Task}
-use Rattle.plan.specs.declared.Narrowed.TheVariants.{Kept}
 use Rattle.plan.specs.Days.{cut_below, cut_above, cut_to}
 use Rattle.rules.specs.Allowed.{Choice}
 use Rattle.rules.specs.Balance.{cuts, unless_empty, balanced, balance}
@@ -32,7 +32,7 @@ cuts_inside t c h j =
       height = h.height;
     }
 
-unless_stays : (t : Task) (c : Choice) → Inside t c → unless_empty t ≡ Kept t
+unless_stays : (t : Task) (c : Choice) → Inside t c → unless_empty t ≡ Ok t
 unfolding unless_empty
 unless_stays t c h =
     let o = h.origin in

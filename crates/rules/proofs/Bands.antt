@@ -1,5 +1,6 @@
 -- What the entry checks say of an accepted list of bands: few, each within its ends, those of each place in rising days; and laws of the
 -- limit of a day.
+use Rattle.plan.specs.Refusals.{Checked, accepted}
 use mathlib.Core.Path.{◌≡◌, refl, sym, ap, ◌∙◌}
 use mathlib.Core.Bool.{Bool, true, false}
 use mathlib.Core.List.{List, [], ◌∷◌, map}
@@ -19,8 +20,6 @@ use Rattle.integers.proofs.Hull.{within_is}
 use Rattle.plan.specs.declared.Band.{Band}
 use Rattle.plan.specs.declared.Resource.{Resource}
 use Rattle.plan.specs.declared.Sense.{Sense}
-use Rattle.plan.specs.declared.Checked.{Checked}
-use Rattle.plan.specs.declared.Checked.TheVariants.{Accepted}
 use Rattle.plan.specs.Days.{day_ends}
 use Rattle.plan.specs.Powers.{power_ends}
 use Rattle.plan.specs.Tasks.{most_bands}
@@ -31,11 +30,11 @@ use Rattle.rules.specs.Rises.{Rises, early, Banded}
 use Rattle.rules.specs.Negation.{negated_band}
 
 -- ---- one after the other
-next_test : (t : Bool) (k : ℕ) (c : Checked) → band_unless t k c ≡ Accepted → t ≡ true
+next_test : (t : Bool) (k : ℕ) (c : Checked) → band_unless t k c ≡ accepted → t ≡ true
 next_test true k c h = refl
 next_test false k c h = let q : ◌≡◌ {A = ℕ} 0 1 = cc (h) in absurd (omega arith)
 
-next_rest : (t : Bool) (k : ℕ) (c : Checked) → band_unless t k c ≡ Accepted → c ≡ Accepted
+next_rest : (t : Bool) (k : ℕ) (c : Checked) → band_unless t k c ≡ accepted → c ≡ accepted
 next_rest true k c h = h
 next_rest false k c h = let q : ◌≡◌ {A = ℕ} 0 1 = cc (h) in absurd (omega arith)
 
@@ -44,9 +43,9 @@ pub record After (n k : ℕ) (a b : Band) (bs : List Band) : Type 0 where
   pub few : k < most_bands
   pub order : earlier a b ≡ true
   pub fits : band_fits n b ≡ true
-  pub rest : bands_after n (suc k) b bs ≡ Accepted
+  pub rest : bands_after n (suc k) b bs ≡ accepted
 
-pub after_is : (n k : ℕ) (a b : Band) (bs : List Band) → bands_after n k a (b ∷ bs) ≡ Accepted → After n k a b bs
+pub after_is : (n k : ℕ) (a b : Band) (bs : List Band) → bands_after n k a (b ∷ bs) ≡ accepted → After n k a b bs
 unfolding bands_after
 after_is n k a b bs h =
     let x = ltb k most_bands in
@@ -105,7 +104,7 @@ unequal : (a r : ℕ) → r < a → eqb a r ≡ false
 unequal a r h = false_in (eqb a r) (λ e. let q = eqb_true a r e in omega arith)
 
 -- past place r there is no band of place r
-passed : (r n k : ℕ) (a : Band) (bs : List Band) → r < a.place → bands_after n k a bs ≡ Accepted → (d : ℤ) → Rises r d bs
+passed : (r n k : ℕ) (a : Band) (bs : List Band) → r < a.place → bands_after n k a bs ≡ accepted → (d : ℤ) → Rises r d bs
 unfolding Rises
 passed r n k a [] l h d = tt
 passed r n k a (b ∷ bs) l h d =
@@ -115,7 +114,7 @@ passed r n k a (b ∷ bs) l h d =
     let u = unequal b.place r q in
     rw u (λ e. clash false e refl, passed r n (suc k) b bs q f.rest d)
 
-after_rises : (r n k : ℕ) (a : Band) (bs : List Band) → bands_after n k a bs ≡ Accepted → Rises r (if (eqb a.place r) a.from.0 early) bs
+after_rises : (r n k : ℕ) (a : Band) (bs : List Band) → bands_after n k a bs ≡ accepted → Rises r (if (eqb a.place r) a.from.0 early) bs
 unfolding Rises
 after_rises r n k a [] h = tt
 after_rises r n k a (b ∷ bs) h =
@@ -145,14 +144,14 @@ after_rises r n k a (b ∷ bs) h =
         same : (b r : ℕ) → r ≤ b → ltb r b ≡ false → b ≡ r
         same b r l t = let m = ltb-false r b t in omega arith
 
-after_all : (n k : ℕ) (a : Band) (bs : List Band) → bands_after n k a bs ≡ Accepted → all (band_fits n) bs ≡ true
+after_all : (n k : ℕ) (a : Band) (bs : List Band) → bands_after n k a bs ≡ accepted → all (band_fits n) bs ≡ true
 unfolding all
 after_all n k a [] h = refl
 after_all n k a (b ∷ bs) h =
     let f = after_is n k a b bs h in
     and_in (band_fits n b) (all (band_fits n) bs) f.fits (after_all n (suc k) b bs f.rest)
 
-after_few : (n k : ℕ) (a : Band) (bs : List Band) → k ≤ most_bands → bands_after n k a bs ≡ Accepted → k + length bs ≤ most_bands
+after_few : (n k : ℕ) (a : Band) (bs : List Band) → k ≤ most_bands → bands_after n k a bs ≡ accepted → k + length bs ≤ most_bands
 after_few n k a [] l h = omega arith
 after_few n k a (b ∷ bs) l h =
     let f = after_is n k a b bs h in
@@ -161,21 +160,21 @@ after_few n k a (b ∷ bs) l h =
     omega arith
 
 -- ---- the whole list
-pub check_rises : (n : ℕ) (bs : List Band) → bands_fit n bs ≡ Accepted → (r : ℕ) → Rises r early bs
+pub check_rises : (n : ℕ) (bs : List Band) → bands_fit n bs ≡ accepted → (r : ℕ) → Rises r early bs
 unfolding bands_fit Rises
 check_rises n [] h r = tt
 check_rises n (b ∷ bs) h r =
     let i = (fits_in n b (next_test (band_fits n b) 0 (bands_after n 1 b bs) h)).day in
     (λ _. omega z, after_rises r n 1 b bs (next_rest (band_fits n b) 0 (bands_after n 1 b bs) h))
 
-pub check_all : (n : ℕ) (bs : List Band) → bands_fit n bs ≡ Accepted → all (band_fits n) bs ≡ true
+pub check_all : (n : ℕ) (bs : List Band) → bands_fit n bs ≡ accepted → all (band_fits n) bs ≡ true
 unfolding bands_fit all
 check_all n [] h = refl
 check_all n (b ∷ bs) h =
     and_in (band_fits n b) (all (band_fits n) bs) (next_test (band_fits n b) 0 (bands_after n 1 b bs) h)
     (after_all n 1 b bs (next_rest (band_fits n b) 0 (bands_after n 1 b bs) h))
 
-pub check_few : (n : ℕ) (bs : List Band) → bands_fit n bs ≡ Accepted → length bs ≤ most_bands
+pub check_few : (n : ℕ) (bs : List Band) → bands_fit n bs ≡ accepted → length bs ≤ most_bands
 unfolding bands_fit
 check_few n [] h = omega arith
 check_few n (b ∷ bs) h =
@@ -188,7 +187,7 @@ all_ends n [] h = refl
 all_ends n (b ∷ bs) h =
     and_in (band_ends b) (all band_ends bs) (fits_ends n b (and_first (band_fits n b) (all (band_fits n) bs) h)) (all_ends n bs (and_second (band_fits n b) (all (band_fits n) bs) h))
 
-pub check_ends : (n : ℕ) (bs : List Band) → bands_fit n bs ≡ Accepted → all band_ends bs ≡ true
+pub check_ends : (n : ℕ) (bs : List Band) → bands_fit n bs ≡ accepted → all band_ends bs ≡ true
 check_ends n bs h = all_ends n bs (check_all n bs h)
 
 -- ---- the limit of a day
@@ -231,5 +230,5 @@ limit_bands_negated r x (b ∷ bs) i =
     ∙ limit_bands_negated r (if (stands r i b) b.limit.0 x) bs i
 
 -- ---- what a step asks
-pub check_banded : (n : ℕ) (bs : List Band) → bands_fit n bs ≡ Accepted → (r : ℕ) → Banded r bs
+pub check_banded : (n : ℕ) (bs : List Band) → bands_fit n bs ≡ accepted → (r : ℕ) → Banded r bs
 check_banded n bs h r = record { ends = check_ends n bs h; rises = check_rises n bs h r }

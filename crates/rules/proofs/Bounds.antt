@@ -1,4 +1,5 @@
 -- How large the numbers of an answer get: a pass count is far below 2^32, and the place of a refusal by the entry checks is below 256.
+use Rattle.std.specs.Prelude.{Ok, Err}
 use mathlib.Core.Path.{◌≡◌, refl, subst}
 use mathlib.Core.Logic.{◌≢◌}
 use mathlib.Core.Bool.{Bool, true, false, not}
@@ -22,9 +23,7 @@ use Rattle.plan.specs.declared.Resource.{Resource}
 use Rattle.plan.specs.declared.Band.{Band}
 use Rattle.plan.specs.declared.Refusal.{Refusal}
 use Rattle.plan.specs.declared.Refusal.TheVariants.{TooManyTasks, ResourceCount, RepeatedIdentifier, LimitOutside, RangeOutside, SetOutside, BandOutside}
-use Rattle.plan.specs.declared.Checked.{Checked}
-use Rattle.plan.specs.declared.Checked.TheVariants.{Accepted, Refused}
-use Rattle.plan.specs.Refusals.{number, place}
+use Rattle.plan.specs.Refusals.{number, place, Checked, accepted}
 use Rattle.plan.specs.Days.{days_of, day_ends, duration_ends}
 use Rattle.plan.specs.Powers.{powers_of, power_ends}
 use Rattle.plan.specs.Sets.{size}
@@ -66,7 +65,7 @@ each_most n nothing = omega arith
 each_most n (also {x = t} h f) = let a = room_most t h.ranges in let b = each_most n f in omega arith
 
 -- ---- the pass count
-module _ (f : Frame) (ts : List Task) (ok : check f ts ≡ Accepted) where
+module _ (f : Frame) (ts : List Task) (ok : check f ts ≡ accepted) where
   pub rooms_most : rooms ts ≤ most_tasks * most_room
   rooms_most =
       let b = each_most (resource_count f) (accepts f ts ok).tasks in
@@ -89,12 +88,12 @@ module _ (b : ℕ) where
   PlaceIn f = (place f ≤ b) × (number f ≢ 7)
 
   abbrev pub PlacedTo : Checked → Type 0
-  PlacedTo Accepted = Unit {0}
-  PlacedTo (Refused f) = PlaceIn f
+  PlacedTo (Ok _) = Unit {0}
+  PlacedTo (Err f) = PlaceIn f
 
-  pub placed_then : (a c : Checked) → PlacedTo a → (a ≡ Accepted → PlacedTo c) → PlacedTo (or_else a c)
-  placed_then Accepted c h g = g refl
-  placed_then (Refused f) c h g = h
+  pub placed_then : (a c : Checked) → PlacedTo a → (a ≡ accepted → PlacedTo c) → PlacedTo (or_else a c)
+  placed_then (Ok _) c h g = g refl
+  placed_then (Err f) c h g = h
 
   pub placed_if : (t : Bool) (f : Refusal) → PlaceIn f → PlacedTo (refuse_if t f)
   placed_if true f h = h
@@ -104,12 +103,12 @@ module _ (b : ℕ) where
   placed_unless true f c h g = h
   placed_unless false f c h g = g refl
 
-  placed_is : (c : Checked) (f : Refusal) → PlacedTo c → c ≡ Refused f → PlaceIn f
+  placed_is : (c : Checked) (f : Refusal) → PlacedTo c → c ≡ Err f → PlaceIn f
   placed_is c f h e = subst PlacedTo e h
 
 pub placed_more : (a b : ℕ) → a ≤ b → (c : Checked) → PlacedTo a c → PlacedTo b c
-placed_more a b l Accepted h = tt
-placed_more a b l (Refused f) h = (let p = h.0 in omega arith, h.1)
+placed_more a b l (Ok _) h = tt
+placed_more a b l (Err f) h = (let p = h.0 in omega arith, h.1)
 
 -- counted from k, each place is one of the list
 repeats_placed : (b k : ℕ) (seen : List ℤ) (qs : List Resource) → k + length qs ≤ suc b → PlacedTo b (repeats k seen qs)
@@ -172,9 +171,9 @@ check_placed f ts =
     placed_then last_place (bands_fit n f.bands) (tasks_fit n 0 ts) (bands_placed last_place n f.bands (omega arith)) λ t.
     tasks_placed last_place n 0 ts (omega (arith, few-tasks))
 
-pub check_place : (f : Frame) (ts : List Task) (e : Refusal) → check f ts ≡ Refused e → place e ≤ last_place
+pub check_place : (f : Frame) (ts : List Task) (e : Refusal) → check f ts ≡ Err e → place e ≤ last_place
 check_place f ts e h = (placed_is last_place (check f ts) e (check_placed f ts) h).0
 
 -- the entry checks never say "no plan"
-pub check_number : (f : Frame) (ts : List Task) (e : Refusal) → check f ts ≡ Refused e → number e ≢ 7
+pub check_number : (f : Frame) (ts : List Task) (e : Refusal) → check f ts ≡ Err e → number e ≢ 7
 check_number f ts e h = (placed_is last_place (check f ts) e (check_placed f ts) h).1

@@ -1,6 +1,7 @@
 -- Demand 3 of the calls over lent lists, as statements. `list_call c f ts` is the promise of the call c on the frame f and the tasks ts: its answer
 -- in the page's number and values, and the tasks that it leaves. `list_calls cs f ts` are the tasks after the calls cs, each on what the one
 -- before left.
+use Rattle.std.specs.Prelude.{Ok, Err}
 use mathlib.Core.Path.{◌≡◌, refl, sym, ap, ◌∙◌}
 use Prim.Native.Nat.{ℕ, suc, ◌≤◌, ◌<◌}
 use mathlib.Core.List.{List, [], ◌∷◌, ◌++◌}
@@ -13,9 +14,7 @@ use Rattle.plan.specs.declared.Task.{Task}
 use Rattle.plan.specs.declared.Call.{Call}
 use Rattle.plan.specs.declared.Call.TheVariants.{Check, Balance, Step, Pass, Settle}
 use Rattle.plan.specs.declared.Refusal.{Refusal}
-use Rattle.plan.specs.declared.Checked.{Checked}
-use Rattle.plan.specs.declared.Checked.TheVariants.{Accepted}
-use Rattle.plan.specs.Refusals.{number, place, told}
+use Rattle.plan.specs.Refusals.{number, place, told, Checked, accepted}
 use Rattle.plan.proofs.Refusals.{told_none}
 use Rattle.rules.specs.Frame.{Frame, resource_count}
 use Rattle.rules.specs.Allowed.{Choice, inside_all, allowed}
@@ -36,24 +35,24 @@ use Rattle.rules.proofs.Theorems.{fixed_choice, settle_keeps, settle_stops}
 
 -- ---- any lists: a refusal of the entry checks is the answer, and "On each refusal, task lists and buffers keep their entry contents."
 module _ (c : Call) (f : Frame) (ts : List Task) where
-  pub entry_refused : (e : Refusal) → check f ts ≡ Checked.Refused e → list_call c f ts ≡ list_result (told (number e) (place e ∷ [])) ts
+  pub entry_refused : (e : Refusal) → check f ts ≡ Err e → list_call c f ts ≡ list_result (told (number e) (place e ∷ [])) ts
   unfolding list_call
   entry_refused e h = rw (call_refused c f ts e h)
 
   -- 7 is said of no lists that the entry checks refuse
-  pub none_accepted : (list_call c f ts).answer.number ≡ 7 → check f ts ≡ Accepted
-  none_accepted h = accepted (check f ts) refl
+  pub none_accepted : (list_call c f ts).answer.number ≡ 7 → check f ts ≡ accepted
+  none_accepted h = by_check (check f ts) refl
     where
-      accepted : (k : Checked) → check f ts ≡ k → check f ts ≡ Accepted
-      accepted Accepted e = e
-      accepted (Checked.Refused r) e = absurd (check_number f ts r e (sym (ap (λ (x : ListResult). x.answer.number) (entry_refused r e)) ∙ h))
+      by_check : (k : Checked) → check f ts ≡ k → check f ts ≡ accepted
+      by_check (Ok _) e = e
+      by_check (Err r) e = absurd (check_number f ts r e (sym (ap (λ (x : ListResult). x.answer.number) (entry_refused r e)) ∙ h))
 
   pub refused_stays : ((list_call c f ts).answer.number ≡ 0 → ⊥) → (list_call c f ts).tasks ≡ ts
   unfolding list_call
   refused_stays h = call_stays c f ts h
 
 -- ---- lists that pass the entry checks: check, balance, step, pass and settle are those of the page
-module _ (f : Frame) (ts : List Task) (ok : check f ts ≡ Accepted) where
+module _ (f : Frame) (ts : List Task) (ok : check f ts ≡ accepted) where
   pub check_done : list_call Check f ts ≡ list_result (told 0 (0 ∷ [])) ts
   unfolding list_call call_of
   check_done = rw ok
@@ -142,18 +141,18 @@ module _ (f : Frame) where
   calls_next [] c ts = refl
   calls_next (d ∷ cs) c ts = calls_next cs c (list_call d f ts).tasks
 
-  pub calls_keep : (cs : List Call) (ts : List Task) → check f ts ≡ Accepted → Keeps f ts (list_calls cs f ts)
+  pub calls_keep : (cs : List Call) (ts : List Task) → check f ts ≡ accepted → Keeps f ts (list_calls cs f ts)
   unfolding list_calls
   calls_keep [] ts ok = nothing_sound f ts ok
   calls_keep (c ∷ cs) ts ok =
       let k = one_keeps f ts ok c in
       keeps_then k (calls_keep cs (list_call c f ts).tasks k.accepted)
 
-  pub calls_count : (cs : List Call) (ts : List Task) → check f ts ≡ Accepted → count f (list_calls cs f ts) ≡ count f ts
+  pub calls_count : (cs : List Call) (ts : List Task) → check f ts ≡ accepted → count f (list_calls cs f ts) ≡ count f ts
   unfolding count
   calls_count cs ts ok = ap length (calls_keep cs ts ok).same
 
-  pub calls_refuse : (cs : List Call) (c : Call) (ts : List Task) → check f ts ≡ Accepted → (list_call c f (list_calls cs f ts)).answer.number ≡ 7 → HoldsNone f ts
+  pub calls_refuse : (cs : List Call) (c : Call) (ts : List Task) → check f ts ≡ accepted → (list_call c f (list_calls cs f ts)).answer.number ≡ 7 → HoldsNone f ts
   calls_refuse cs c ts ok e =
       let k = calls_keep cs ts ok in
       nothing_then k (one_refuses f (list_calls cs f ts) k.accepted c e)

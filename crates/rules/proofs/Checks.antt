@@ -1,4 +1,6 @@
 -- What the entry checks say of an accepted plan, and that a plan inside an accepted one is accepted again.
+use Rattle.std.specs.Prelude.{Ok, Err}
+use Rattle.plan.specs.Refusals.{Checked, accepted}
 use mathlib.Core.Path.{◌≡◌, refl, sym, ◌∙◌}
 use Prim.Native.Nat.{ℕ, zero, suc, ◌≤◌, ◌<◌}
 use native.Mathlib.Omega.{arith}
@@ -25,8 +27,6 @@ use Rattle.plan.specs.declared.Band.{Band}
 use Rattle.plan.specs.declared.Sense.{Sense}
 use Rattle.plan.specs.declared.Refusal.{Refusal}
 use Rattle.plan.specs.declared.Refusal.TheVariants.{TooManyTasks, ResourceCount, LimitOutside, RangeOutside, SetOutside}
-use Rattle.plan.specs.declared.Checked.{Checked}
-use Rattle.plan.specs.declared.Checked.TheVariants.{Accepted, Refused}
 use Rattle.plan.specs.Days.{days_of, day_ends, duration_ends}
 use Rattle.plan.specs.Powers.{powers_of, power_ends}
 use Rattle.plan.specs.Tasks.{most_tasks, most_resources, most_bands, no_resource, TaskFits}
@@ -42,20 +42,20 @@ use Rattle.rules.specs.Keeps.{SubTask, Subs}
 use Rattle.rules.specs.Keeps.Subs.{no_subs, more_subs}
 
 -- ---- one check after another
-no_refusal : {P : Type 0} (f : Refusal) → Refused f ≡ Accepted → P
+no_refusal : {P : Type 0} (f : Refusal) → Err f ≡ accepted → P
 no_refusal f h = let q : ◌≡◌ {A = ℕ} 0 1 = cc in absurd (omega arith)
 
 -- past one check, and past all of a kind
-pub past : (b : Bool) (f : Refusal) (c : Checked) → or_else (refuse_if b f) c ≡ Accepted → (b ≡ false) × (c ≡ Accepted)
+pub past : (b : Bool) (f : Refusal) (c : Checked) → or_else (refuse_if b f) c ≡ accepted → (b ≡ false) × (c ≡ accepted)
 past true f c h = no_refusal f h
 past false f c h = (refl, h)
 
-pub past_all : (a c : Checked) → or_else a c ≡ Accepted → (a ≡ Accepted) × (c ≡ Accepted)
-past_all Accepted c h = (refl, h)
-past_all (Refused f) c h = no_refusal f h
+pub past_all : (a c : Checked) → or_else a c ≡ accepted → (a ≡ accepted) × (c ≡ accepted)
+past_all (Ok _) c h = (refl, h)
+past_all (Err f) c h = no_refusal f h
 
 -- ---- the tasks and the limits
-tasks_fit_is : (n k : ℕ) (ts : List Task) → tasks_fit n k ts ≡ Accepted → Each (TaskFits n) ts
+tasks_fit_is : (n k : ℕ) (ts : List Task) → tasks_fit n k ts ≡ accepted → Each (TaskFits n) ts
 unfolding tasks_fit
 tasks_fit_is n k [] h = nothing
 tasks_fit_is n k (t ∷ ts) h =
@@ -64,12 +64,12 @@ tasks_fit_is n k (t ∷ ts) h =
     let b = past (not (set_fits n t)) (SetOutside k) (tasks_fit n (suc k) ts) a.1 in
     also (task_fits_is n t (not-false (ranges_fit t) a.0) (not-false (set_fits n t) b.0)) (tasks_fit_is n (suc k) ts b.1)
 
-tasks_fit_in : (n k : ℕ) {ts : List Task} → Each (TaskFits n) ts → tasks_fit n k ts ≡ Accepted
+tasks_fit_in : (n k : ℕ) {ts : List Task} → Each (TaskFits n) ts → tasks_fit n k ts ≡ accepted
 unfolding tasks_fit
 tasks_fit_in n k nothing = refl
 tasks_fit_in n k (also {x = t} h f) = rw (bounded_in t h.ranges, set_fits_in n t h) (tasks_fit_in n (suc k) f)
 
-limits_is : (k j : ℕ) (qs : List Resource) → limits k qs ≡ Accepted → j < length qs → Within power_ends (get_or qs j no_resource).limit.0
+limits_is : (k j : ℕ) (qs : List Resource) → limits k qs ≡ accepted → j < length qs → Within power_ends (get_or qs j no_resource).limit.0
 unfolding limits
 limits_is k j [] h l = absurd (not-suc-le-zero l)
 limits_is k zero (q ∷ qs) h l =
@@ -93,11 +93,11 @@ pub record Accepts (f : Frame) (ts : List Task) : Type 0 where
 record Parts (f : Frame) (ts : List Task) : Type 0 where
   few : ltb most_tasks (length ts) ≡ false
   count : or (eqb (resource_count f) 0) (ltb most_resources (resource_count f)) ≡ false
-  limits : limits 0 f.resources ≡ Accepted
-  bands : bands_fit (resource_count f) f.bands ≡ Accepted
-  tasks : tasks_fit (resource_count f) 0 ts ≡ Accepted
+  limits : limits 0 f.resources ≡ accepted
+  bands : bands_fit (resource_count f) f.bands ≡ accepted
+  tasks : tasks_fit (resource_count f) 0 ts ≡ accepted
 
-parts : (f : Frame) (ts : List Task) → check f ts ≡ Accepted → Parts f ts
+parts : (f : Frame) (ts : List Task) → check f ts ≡ accepted → Parts f ts
 unfolding check
 parts f ts h =
     let n = resource_count f in
@@ -110,7 +110,7 @@ parts f ts h =
     let d = past_all (bands_fit n f.bands) tasks c.1 in
     record { few = a.0; count = b.0; limits = c.0; bands = d.0; tasks = d.1 }
 
-module _ (f : Frame) (ts : List Task) (h : check f ts ≡ Accepted) where
+module _ (f : Frame) (ts : List Task) (h : check f ts ≡ accepted) where
   pub accepts : Accepts f ts
   accepts =
       let n = resource_count f in
@@ -169,7 +169,7 @@ unfolding check
 check_same f us ts a b = rw (a, b)
 
 -- with nothing empty, it is accepted again
-pub check_kept : (f : Frame) (ts : List Task) → check f ts ≡ Accepted → (us : List Task) → Subs us ts → Lives us → check f us ≡ Accepted
+pub check_kept : (f : Frame) (ts : List Task) → check f ts ≡ accepted → (us : List Task) → Subs us ts → Lives us → check f us ≡ accepted
 check_kept f ts h us s l =
     let n = resource_count f in
     let a = (accepts f ts h).tasks in

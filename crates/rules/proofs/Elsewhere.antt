@@ -1,5 +1,7 @@
 -- A change elsewhere does not concern r: where the step of r changes nothing on ts, it changes nothing on ts with some tasks replaced, if
 -- each of those has r neither before nor after, or looks the same to r: only other resources left its set, which has r and another one.
+use Rattle.std.specs.Prelude.{Ok, Err}
+use Rattle.plan.specs.Refusals.{Narrowed}
 use mathlib.Core.Path.{◌≡◌, refl, sym, ap, ap₂, ◌∙◌, subst}
 use Prim.Native.Nat.{ℕ, ◌^◌}
 use native.Mathlib.Omega.{arith}
@@ -12,8 +14,6 @@ use Rattle.integers.specs.Sums.{sum_of}
 use Rattle.integers.specs.Hull.{Range, hull, values, left}
 use Rattle.integers.proofs.Tests.{clash, if-case, same_test, not_out, not_any, all_in, any_none, filter_same}
 use Rattle.plan.specs.declared.Task.{Task}
-use Rattle.plan.specs.declared.Narrowed.{Narrowed}
-use Rattle.plan.specs.declared.Narrowed.TheVariants.{Kept, RanOut}
 use Rattle.plan.specs.Days.{days_of}
 use Rattle.plan.specs.Powers.{powers_of}
 use Rattle.plan.specs.Sets.{has, only, without}
@@ -214,7 +214,7 @@ module _ (r : ℕ) (limit : Floor) (t : Task) (l : Live t) (ts us : List Task) (
 
 -- ---- a task that r can't tell from one that it keeps: on no day is it needed, and a bar neither shuts values out nor takes r away
 module _ (r : ℕ) (limit : Floor) (ts us : List Task) (same_total : (i : ℤ) → total r ts i ≡ total r us i) (same-counts : (i : ℤ) → counts r limit ts i ≡ counts r limit us i)
-    (t u : Task) (a : Alike r t u) (k : In t ts) (kept : narrowed r limit ts (listed_days ts) t ≡ Kept t) where
+    (t u : Task) (a : Alike r t u) (k : In t ts) (kept : narrowed r limit ts (listed_days ts) t ≡ Ok t) where
   stayed : t.set ≡ kept_set r limit ts (listed_days ts) t
   stayed = kept_set_is r limit ts (listed_days ts) t t kept
 
@@ -249,7 +249,7 @@ module _ (r : ℕ) (limit : Floor) (ts us : List Task) (same_total : (i : ℤ) �
       sym (ap₂ and (barred_alike i) (running_alike r a i))
       ∙ never (λ i. and (barred r limit ts t i) (running r i t)) (λ i e. rw (no_bar r i t limit ts e)) (no_bar_spoke r limit ts (listed_days ts) t still_has still_shared) i
 
-  alike_kept : (days : List ℤ) → Live u → narrowed r limit us days u ≡ Kept u
+  alike_kept : (days : List ℤ) → Live u → narrowed r limit us days u ≡ Ok u
   unfolding shut
   alike_kept days l =
       narrowed_untouched r limit us days u
@@ -257,28 +257,28 @@ module _ (r : ℕ) (limit : Floor) (ts us : List Task) (same_total : (i : ℤ) �
       l
 
 -- ---- a step that changes nothing keeps every task, and the other way round
-and_then_still : (t : Task) (ts : List Task) (n : Narrowed) (o : Outcome) → and_then n o ≡ Plan (t ∷ ts) → (n ≡ Kept t) × (o ≡ Plan ts)
-and_then_still t ts (RanOut v) o e = let q : ◌≡◌ {A = ℕ} 0 1 = cc (e) in absurd (omega arith)
-and_then_still t ts (Kept u) NoPlan e = let q : ◌≡◌ {A = ℕ} 0 1 = cc (e) in absurd (omega arith)
-and_then_still t ts (Kept u) (Plan us) e =
+and_then_still : (t : Task) (ts : List Task) (n : Narrowed) (o : Outcome) → and_then n o ≡ Plan (t ∷ ts) → (n ≡ Ok t) × (o ≡ Plan ts)
+and_then_still t ts (Err v) o e = let q : ◌≡◌ {A = ℕ} 0 1 = cc (e) in absurd (omega arith)
+and_then_still t ts (Ok u) NoPlan e = let q : ◌≡◌ {A = ℕ} 0 1 = cc (e) in absurd (omega arith)
+and_then_still t ts (Ok u) (Plan us) e =
     let a : u ≡ t = cc (e) in
     let b : us ≡ ts = cc (e) in
-    (ap Kept a, ap Plan b)
+    (ap Ok a, ap Plan b)
 
-each_still : (f : Task → Narrowed) {t : Task} {ts : List Task} → In t ts → each f ts ≡ Plan ts → f t ≡ Kept t
+each_still : (f : Task → Narrowed) {t : Task} {ts : List Task} → In t ts → each f ts ≡ Plan ts → f t ≡ Ok t
 unfolding each
 each_still f {t} (head {xs = us}) e = (and_then_still t us (f t) (each f us) e).0
 each_still f (tail {y = u} {xs = us} k) e = each_still f k (and_then_still u us (f u) (each f us) e).1
 
-pub still_each : (f : Task → Narrowed) (ts : List Task) → each f ts ≡ Plan ts → (t : Task) → In t ts → f t ≡ Kept t
+pub still_each : (f : Task → Narrowed) (ts : List Task) → each f ts ≡ Plan ts → (t : Task) → In t ts → f t ≡ Ok t
 still_each f ts e t k = each_still f k e
 
-module _ (r : ℕ) (limit : Floor) (ts us : List Task) (beside : Beside r ts us) (lives : Lives ts) (still : (t : Task) → In t ts → narrowed r limit ts (listed_days ts) t ≡ Kept t) where
+module _ (r : ℕ) (limit : Floor) (ts us : List Task) (beside : Beside r ts us) (lives : Lives ts) (still : (t : Task) → In t ts → narrowed r limit ts (listed_days ts) t ≡ Ok t) where
   each_beside : {vs ws : List Task} → Beside r vs ws → ((t : Task) → In t vs → In t ts) → ((u : Task) → In u ws → In u us) → each (narrowed r limit us (listed_days us)) ws ≡ Plan ws
   unfolding each
   each_beside no_tasks f g = refl
   each_beside (same_task_lem {t} {us = ws} b) f g =
-      let kept : narrowed r limit us (listed_days us) t ≡ Kept t =
+      let kept : narrowed r limit us (listed_days us) t ≡ Ok t =
       sym (narrowed_same r limit t (each_in lives (f t head)) ts us (total_beside r beside) (counts_beside r limit beside) (f t head) (g t head)) ∙ still t (f t head) in
       ap₂ and_then kept (each_beside b (λ v k. f v (tail k)) (λ v k. g v (tail k)))
   each_beside (other_set {t} {u} {us = ws} a l c) f g =

@@ -1,5 +1,6 @@
 -- Settling ends: each pass but the last takes some room away, so there is at most one pass more than there is room, and a pass that
 -- finds no plan comes within as many. So more passes than these are never made, and settling within as many is settling.
+use Rattle.plan.specs.Refusals.{accepted}
 use mathlib.Core.Path.{◌≡◌, refl, sym, ap, ◌∙◌, subst}
 use Prim.Native.Nat.{ℕ, zero, suc, ◌≤◌, ◌<◌}
 use native.Mathlib.Omega.{arith}
@@ -14,7 +15,6 @@ use Rattle.rules.specs.Settle.{then, pass, same_tasks, Settled, one_pass_more, u
 use Rattle.rules.specs.Settle.Settled.{Refused, After, Unsettled}
 use Rattle.rules.specs.Moves.{passes, Stops}
 use Rattle.rules.specs.Calls.{check}
-use Rattle.plan.specs.declared.Checked.TheVariants.{Accepted}
 use Rattle.rules.specs.Keeps.{Keeps}
 use Rattle.rules.proofs.Keeps.{Sound}
 use Rattle.rules.proofs.Passes.{pass_sound}
@@ -53,12 +53,12 @@ module _ (f : Frame) where
   more_ended a b ts us (Unsettled vs) e l h = h
 
   -- with more passes to go than room, settling ends
-  pub ends_within : (n : ℕ) (ts : List Task) → check f ts ≡ Accepted → rooms ts < n → Ended (most_passes ts) ts (settle_within n f ts)
+  pub ends_within : (n : ℕ) (ts : List Task) → check f ts ≡ accepted → rooms ts < n → Ended (most_passes ts) ts (settle_within n f ts)
   unfolding settle_within
   ends_within zero ts a h = absurd (omega arith)
   ends_within (suc n) ts a h = go (pass f ts) refl (pass_sound f ts a) (ends_within n)
     where
-      go : (o : Outcome) → pass f ts ≡ o → Sound f ts o → ((us : List Task) → check f us ≡ Accepted → rooms us < n → Ended (most_passes us) us (settle_within n f us)) → Ended (most_passes ts) ts (unless_same (settle_within n f) ts o)
+      go : (o : Outcome) → pass f ts ≡ o → Sound f ts o → ((us : List Task) → check f us ≡ accepted → rooms us < n → Ended (most_passes us) us (settle_within n f us)) → Ended (most_passes ts) ts (unless_same (settle_within n f) ts o)
       go NoPlan e g k = (1, omega arith, first_fails ts e)
       go (Plan us) e g k =
           if-case (Ended (most_passes ts) ts) (same_tasks ts us) (After 1 us) (one_pass_more (settle_within n f us))
@@ -67,7 +67,7 @@ module _ (f : Frame) where
           let less = keeps_less f ts us a g q in
           more_ended (most_passes us) (most_passes ts) ts us (settle_within n f us) e (omega arith) (k us g.accepted (omega arith)))
 
-  pub settle_ends : (ts : List Task) → check f ts ≡ Accepted → Ended (most_passes ts) ts (settle f ts)
+  pub settle_ends : (ts : List Task) → check f ts ≡ accepted → Ended (most_passes ts) ts (settle f ts)
   unfolding settle
   settle_ends ts a = ends_within (suc (rooms ts)) ts a (omega arith)
 
@@ -92,19 +92,19 @@ module _ (f : Frame) (n : ℕ) (ts : List Task) where
 -- ---- settling is a pass, and settling what it left
 module _ (f : Frame) where
   -- any two numbers of passes above the room give the same
-  same_bound : (n m : ℕ) (ts : List Task) → check f ts ≡ Accepted → rooms ts < n → rooms ts < m → settle_within n f ts ≡ settle_within m f ts
+  same_bound : (n m : ℕ) (ts : List Task) → check f ts ≡ accepted → rooms ts < n → rooms ts < m → settle_within n f ts ≡ settle_within m f ts
   unfolding settle_within
   same_bound zero m ts a h l = absurd (omega arith)
   same_bound (suc n) zero ts a h l = absurd (omega arith)
   same_bound (suc n) (suc m) ts a h l = go (pass f ts) (pass_sound f ts a) (same_bound n m)
     where
-      go : (o : Outcome) → Sound f ts o → ((us : List Task) → check f us ≡ Accepted → rooms us < n → rooms us < m → settle_within n f us ≡ settle_within m f us) → unless_same (settle_within n f) ts o ≡ unless_same (settle_within m f) ts o
+      go : (o : Outcome) → Sound f ts o → ((us : List Task) → check f us ≡ accepted → rooms us < n → rooms us < m → settle_within n f us ≡ settle_within m f us) → unless_same (settle_within n f) ts o ≡ unless_same (settle_within m f) ts o
       go NoPlan k g = refl
       go (Plan us) k g =
           by_cases (same_tasks ts us) (λ e. rw e)
           (λ e. let less = keeps_less f ts us a k e in rw (e, g us k.accepted (omega arith) (omega arith)))
 
-  module _ (ts : List Task) (a : check f ts ≡ Accepted) where
+  module _ (ts : List Task) (a : check f ts ≡ accepted) where
     -- with as many passes as the bound, or more
     pub within_most : (n : ℕ) → most_passes ts ≤ n → settle_within n f ts ≡ settle f ts
     unfolding settle

@@ -1,4 +1,5 @@
 -- One fixed choice: a pass finds no plan exactly where the choice breaks a rule, and else changes nothing.
+use Rattle.plan.specs.Refusals.{accepted}
 use mathlib.Core.Path.{◌≡◌, refl, sym, ap, ap₂, ◌∙◌, subst}
 use Prim.Native.Nat.{ℕ, ◌^◌, ◌<◌}
 use native.Mathlib.Omega.{arith}
@@ -25,7 +26,6 @@ use Rattle.rules.specs.Step.{resource_step}
 use Rattle.rules.specs.Settle.{then, steps, pass}
 use Rattle.rules.specs.Fixed.{fixed, one_value, one_resource}
 use Rattle.rules.specs.Calls.{check}
-use Rattle.plan.specs.declared.Checked.TheVariants.{Accepted}
 use Rattle.rules.proofs.Inside.{Inside, inside_is, inside_in}
 use Rattle.rules.proofs.Live.{Live, Lives}
 use Rattle.integers.specs.Lists.{Each}
@@ -125,7 +125,7 @@ lowests (also {x = t} {xs = ts} l f) =
     let cs = lowests f in
     (c.0 ∷ cs.0, and_in (inside t c.0) (inside_all ts cs.0) (inside_in t c.0 c.1) cs.1)
 
-module _ (f : Frame) (ts : List Task) (a : check f ts ≡ Accepted) where
+module _ (f : Frame) (ts : List Task) (a : check f ts ≡ accepted) where
   pub some_choice : (cs : List Choice) × (inside_all ts cs ≡ true)
   some_choice = lowests (check_live f ts a)
 

@@ -1,4 +1,6 @@
 -- One fixed choice: balance and each resource step leave it as it is exactly where it keeps their rules, and find no plan elsewhere.
+use Rattle.std.specs.Prelude.{Ok, Err}
+use Rattle.plan.specs.Refusals.{Narrowed}
 use mathlib.Core.Path.{◌≡◌, refl, sym, ap, ap₂, ◌∙◌, subst, subst₂}
 use Prim.Native.Nat.{ℕ, ◌^◌}
 use mathlib.Core.List.{List, [], ◌∷◌, map}
@@ -14,8 +16,6 @@ use Rattle.integers.proofs.Z.{z, +z, -z, maxz, minz, le_z_in, eq_z_in, negneg}
 use Rattle.integers.proofs.Tests.{clash, by_cases, if-case, same_test, and_first, and_second, not_out, not_any}
 use Rattle.integers.specs.Ends.{Within}
 use Rattle.plan.specs.declared.Task.{Task}
-use Rattle.plan.specs.declared.Narrowed.{Narrowed}
-use Rattle.plan.specs.declared.Narrowed.TheVariants.{Kept, RanOut}
 use Rattle.plan.specs.declared.Value.TheVariants.{Origin}
 use Rattle.plan.specs.declared.Sense.{Sense}
 use Rattle.plan.specs.declared.Sense.TheVariants.{AtMost, AtLeast}
@@ -211,10 +211,10 @@ sense_step_fixed AtMost r limit cs j =
 
 -- ---- balance
 no_more : (n : Narrowed) → and_then n NoPlan ≡ NoPlan
-no_more (RanOut v) = refl
-no_more (Kept t) = refl
+no_more (Err v) = refl
+no_more (Ok t) = refl
 
-balanced_unjoined : (c : Choice) → joined c ≡ false → balanced (fixed c) ≡ RanOut Origin
+balanced_unjoined : (c : Choice) → joined c ≡ false → balanced (fixed c) ≡ Err Origin
 unfolding balanced unless_empty cuts cut_to cut_above cut_below joined
 balanced_unjoined c h =
     let o = c.origin in

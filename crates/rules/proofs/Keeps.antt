@@ -1,5 +1,6 @@
 -- Every step, and any sequence of steps, keeps the allowed plans of an accepted plan: the very same list, in the same order, inside
 -- an accepted plan whose ranges lie in the old ones; and with no plan there was none.
+use Rattle.plan.specs.Refusals.{accepted}
 use mathlib.Core.Path.{◌≡◌, refl, sym, ◌∙◌, subst}
 use Prim.Native.Nat.{ℕ, ◌<◌}
 use native.Mathlib.Omega.{arith}
@@ -18,7 +19,6 @@ use Rattle.rules.specs.Settle.{then}
 use Rattle.rules.specs.Moves.{Move, move, play}
 use Rattle.rules.specs.Moves.Move.{Balance, StepOf}
 use Rattle.rules.specs.Calls.{check}
-use Rattle.plan.specs.declared.Checked.TheVariants.{Accepted}
 use Rattle.rules.proofs.Inside.{Inside, Fit, inside_is, inside_in, fit_is, fit_in}
 use Rattle.rules.proofs.Limits.{allowed_joined, allowed_holds}
 use Rattle.rules.proofs.Stays.{PlanStays}
@@ -70,7 +70,7 @@ nothing_then h g = record { choices = λ cs ok. sym (h.choices cs ok) ∙ g.choi
 
 module _ (f : Frame) where
   -- a step that shrinks and loses no allowed choice is sound
-  sound_by : (ts : List Task) → check f ts ≡ Accepted → (o : Outcome) → Shrunk ts o → ((cs : List Choice) → allowed f cs ≡ true → Fit ts cs → PlanStays cs o) → Sound f ts o
+  sound_by : (ts : List Task) → check f ts ≡ accepted → (o : Outcome) → Shrunk ts o → ((cs : List Choice) → allowed f cs ≡ true → Fit ts cs → PlanStays cs o) → Sound f ts o
   sound_by ts a NoPlan h k =
       record {
         choices = λ cs ok. false_in (inside_all ts cs) (lost cs ok);
@@ -96,19 +96,19 @@ module _ (f : Frame) where
           let e : q.tasks ≡ us = cc q.is in
           subst (λ vs. inside_all vs cs ≡ true) e (fit_in q.fit)
 
-  pub nothing_sound : (ts : List Task) → check f ts ≡ Accepted → Sound f ts (Plan ts)
+  pub nothing_sound : (ts : List Task) → check f ts ≡ accepted → Sound f ts (Plan ts)
   nothing_sound ts a = record { choices = λ cs ok. refl; same = refl; accepted = a; inside = subs_self ts }
 
-  pub balance_sound : (ts : List Task) → check f ts ≡ Accepted → Sound f ts (balance ts)
+  pub balance_sound : (ts : List Task) → check f ts ≡ accepted → Sound f ts (balance ts)
   balance_sound ts a = sound_by ts a (balance ts) (balance_shrunk (check_live f ts a)) (λ cs ok g. balance_stays ts cs g)
 
-  pub step_sound : (r : ℕ) → r < resource_count f → (ts : List Task) → check f ts ≡ Accepted → Sound f ts (resource_step f r ts)
+  pub step_sound : (r : ℕ) → r < resource_count f → (ts : List Task) → check f ts ≡ accepted → Sound f ts (resource_step f r ts)
   step_sound r l ts a =
       sound_by ts a (resource_step f r ts) (resource_step_shrunk f r ts)
       (λ cs ok g. resource_step_stays f r ts cs g (allowed_holds f cs ok r l))
 
   -- one after another
-  pub then_sound : (ts : List Task) (o : Outcome) (k : List Task → Outcome) → Sound f ts o → ((us : List Task) → check f us ≡ Accepted → Sound f us (k us)) → Sound f ts (then o k)
+  pub then_sound : (ts : List Task) (o : Outcome) (k : List Task → Outcome) → Sound f ts o → ((us : List Task) → check f us ≡ accepted → Sound f us (k us)) → Sound f ts (then o k)
   then_sound ts NoPlan k h g = h
   then_sound ts (Plan us) k h g = carry (k us) (g us h.accepted)
     where
@@ -116,14 +116,14 @@ module _ (f : Frame) where
       carry NoPlan l = nothing_then h l
       carry (Plan vs) l = keeps_then h l
 
-  pub move_sound : (m : Move) (ts : List Task) → check f ts ≡ Accepted → Sound f ts (move f m ts)
+  pub move_sound : (m : Move) (ts : List Task) → check f ts ≡ accepted → Sound f ts (move f m ts)
   unfolding move
   move_sound Balance ts a = balance_sound ts a
   move_sound (StepOf r) ts a =
       if-case (Sound f ts) (is_place f r) (resource_step f r ts) (Plan ts) (λ e. step_sound r (ltb-true r (resource_count f) e) ts a) (λ e. nothing_sound ts a)
 
   -- any sequence, of any length and order
-  pub play_sound : (ms : List Move) (ts : List Task) → check f ts ≡ Accepted → Sound f ts (play f ms ts)
+  pub play_sound : (ms : List Move) (ts : List Task) → check f ts ≡ accepted → Sound f ts (play f ms ts)
   unfolding play
   play_sound [] ts a = nothing_sound ts a
   play_sound (m ∷ ms) ts a = then_sound ts (move f m ts) (play f ms) (move_sound m ts a) (play_sound ms)

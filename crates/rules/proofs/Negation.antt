@@ -1,6 +1,8 @@
 -- "Sense at most is the same with every height and limit negated and each height's two ends swapped; it is proved once, over the
 -- negation": negating twice is nothing, balance, room and the entry checks don't see it, and so a step, a pass and settling of the negated
 -- plan are those of the plan, negated, after as many passes.
+use Rattle.std.specs.Prelude.{Ok, Err}
+use Rattle.plan.specs.Refusals.{Checked, Narrowed}
 use mathlib.Core.Path.{◌≡◌, refl, sym, ap, ap₂, ◌∙◌}
 use Prim.Native.Nat.{ℕ, zero, suc, ◌+◌}
 use mathlib.Core.List.{List, [], ◌∷◌, map}
@@ -13,16 +15,14 @@ use Rattle.integers.specs.Hull.{range, within, fits, same_range, width}
 use Rattle.integers.proofs.Z.{z, -z, ~z, eq_z_in, eq_z_is, negneg}
 use Rattle.integers.proofs.Tests.{by_cases, same_test, and_first, and_second, and_in}
 use Rattle.integers.proofs.Hull.{within_is, within_in, fits_is, fits_in}
-use Rattle.plan.specs.declared.PowerSpan.{PowerSpan}
+use Rattle.plan.specs.declared.Span.{Span}
+use Rattle.plan.specs.declared.Power.{Power}
 use Rattle.plan.specs.declared.Task.{Task}
 use Rattle.plan.specs.declared.Resource.{Resource}
 use Rattle.plan.specs.declared.Band.{Band}
 use Rattle.plan.specs.declared.Call.{Call}
 use Rattle.plan.specs.declared.Call.TheVariants.{Check, Balance, Step, Pass, Settle, Within, MostPasses}
-use Rattle.plan.specs.declared.Checked.{Checked}
 use Rattle.plan.specs.declared.Refusal.TheVariants.{NoSuchResource}
-use Rattle.plan.specs.declared.Narrowed.{Narrowed}
-use Rattle.plan.specs.declared.Narrowed.TheVariants.{Kept, RanOut}
 use Rattle.plan.specs.declared.Sense.{Sense}
 use Rattle.plan.specs.declared.Sense.TheVariants.{AtMost, AtLeast}
 use Rattle.plan.specs.Days.{empty_span}
@@ -39,18 +39,18 @@ use Rattle.rules.specs.Negation.{opposite, negated_resource, negated_band, negat
 use Rattle.rules.proofs.Bands.{limit_bands_negated}
 
 abbrev pub negated_task : Narrowed → Narrowed
-negated_task (Kept t) = Kept (negated t)
-negated_task (RanOut v) = RanOut v
+negated_task (Ok t) = Ok (negated t)
+negated_task (Err v) = Err v
 
 -- ---- twice is nothing
-pub powers_back : (s : PowerSpan) → negated_powers (negated_powers s) ≡ s
+pub powers_back : (s : Span Power) → negated_powers (negated_powers s) ≡ s
 unfolding negated_powers
 powers_back s = ap₂ (λ (x y : ℤ). record { low = power x; high = power y }) (negneg s.low.0) (negneg s.high.0)
 
 pub negated_back : (t : Task) → negated (negated t) ≡ t
 unfolding negated
 negated_back t =
-    ap (λ (h : PowerSpan). record { set = t.set; origin = t.origin; duration = t.duration; end = t.end; height = h })
+    ap (λ (h : Span Power). record { set = t.set; origin = t.origin; duration = t.duration; end = t.end; height = h })
     (powers_back t.height)
 
 pub negateds_back : (ts : List Task) → map negated (map negated ts) ≡ ts
@@ -75,9 +75,9 @@ plan_back (Plan ts) = ap Plan (negateds_back ts)
 
 -- ---- balance does not look at heights
 and_then_negated : (n : Narrowed) (o : Outcome) → and_then (negated_task n) (negated_plan o) ≡ negated_plan (and_then n o)
-and_then_negated (RanOut v) o = refl
-and_then_negated (Kept t) NoPlan = refl
-and_then_negated (Kept t) (Plan ts) = refl
+and_then_negated (Err v) o = refl
+and_then_negated (Ok t) NoPlan = refl
+and_then_negated (Ok t) (Plan ts) = refl
 
 pub each_negated : (f g : Task → Narrowed) → ((t : Task) → f (negated t) ≡ negated_task (g t)) → (ts : List Task) → each f (map negated ts) ≡ negated_plan (each g ts)
 unfolding each
@@ -162,7 +162,7 @@ pass_negated f ts =
     ∙ then_negated (balance ts) (steps (negated_frame f) (places f)) (steps f (places f)) (steps_negated f (places f))
 
 -- ---- settling, after as many passes
-same_powers : (s u : PowerSpan) → same_range (powers_of (negated_powers s)) (powers_of (negated_powers u)) ≡ same_range (powers_of s) (powers_of u)
+same_powers : (s u : Span Power) → same_range (powers_of (negated_powers s)) (powers_of (negated_powers u)) ≡ same_range (powers_of s) (powers_of u)
 unfolding same_range negated_powers
 same_powers s u =
     let a = s.low.0 in
@@ -209,7 +209,7 @@ settle_within_negated (suc n) f ts =
     ∙ unless_same_negated (settle_within n (negated_frame f)) (settle_within n f) (settle_within_negated n f) ts (pass f ts)
 
 -- ---- room
-width_negated : (s : PowerSpan) → width (powers_of (negated_powers s)) ≡ width (powers_of s)
+width_negated : (s : Span Power) → width (powers_of (negated_powers s)) ≡ width (powers_of s)
 unfolding width negated_powers
 width_negated s =
     let a = s.low.0 in
@@ -232,7 +232,7 @@ settle_negated f ts =
     ap (λ (n : ℕ). settle_within (suc n) (negated_frame f) (map negated ts)) (rooms_negated ts) ∙ settle_within_negated (suc (rooms ts)) f ts
 
 -- ---- the entry checks: the ends are symmetric
-powers_fit_negated : (s : PowerSpan) → fits power_ends (powers_of (negated_powers s)) ≡ fits power_ends (powers_of s)
+powers_fit_negated : (s : Span Power) → fits power_ends (powers_of (negated_powers s)) ≡ fits power_ends (powers_of s)
 unfolding negated_powers
 powers_fit_negated s =
     let a = s.low.0 in
@@ -303,8 +303,8 @@ check_negated f ts =
 
 -- ---- the calls
 unless_refused_negated : (k : Checked) (ts : List Task) (x x' : Result) → x' ≡ negated_result x → unless_refused k (map negated ts) x' ≡ negated_result (unless_refused k ts x)
-unless_refused_negated Checked.Accepted ts x x' h = h
-unless_refused_negated (Checked.Refused e) ts x x' h = refl
+unless_refused_negated (Ok _) ts x x' h = h
+unless_refused_negated (Err e) ts x x' h = refl
 
 stepped_negated : (ts : List Task) (o : Outcome) → stepped (map negated ts) (negated_plan o) ≡ negated_result (stepped ts o)
 stepped_negated ts NoPlan = refl

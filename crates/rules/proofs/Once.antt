@@ -1,4 +1,5 @@
 -- The listing has each choice inside the sets and ranges exactly once, and nothing else: so the count is a count of plans.
+use Rattle.plan.specs.Refusals.{accepted}
 use mathlib.Core.Path.{◌≡◌, refl, sym, ap, ap₂, ◌∙◌, subst}
 use Prim.Native.Nat.{ℕ, zero, suc, ◌+◌, ◌^◌, ◌≤◌, ◌<◌}
 use native.Mathlib.Omega.{arith}
@@ -19,7 +20,6 @@ use Rattle.integers.proofs.Tests.{clash, by_cases, false_in, same_test, and_firs
 use Rattle.plan.specs.declared.Task.{Task}
 use Rattle.plan.specs.Sets.{has}
 use Rattle.plan.specs.Tasks.{TaskFits}
-use Rattle.plan.specs.declared.Checked.TheVariants.{Accepted}
 use Rattle.plan.proofs.Sets.{eqb_true, eqb_in, has_alone, alone_only, has_le}
 use Rattle.rules.specs.Frame.{Frame, resource_count, places_from}
 use Rattle.rules.specs.Allowed.{Choice, inside, inside_all, allowed}
@@ -176,7 +176,7 @@ choices_placed n (also {x = t} {xs = ts} a f) (c ∷ cs) h =
     (choices_placed n f cs (and_second (inside t c) (inside_all ts cs) h))
 
 -- ---- so the listing has every choice inside exactly once, and no other
-module _ (f : Frame) (ts : List Task) (ok : check f ts ≡ Accepted) (cs : List Choice) where
+module _ (f : Frame) (ts : List Task) (ok : check f ts ≡ accepted) (cs : List Choice) where
   abbrev all_listed : List (List Choice)
   all_listed = listing (resource_count f) ts
 

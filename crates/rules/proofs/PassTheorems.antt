@@ -1,5 +1,6 @@
 -- How many passes at most, of the calls over lent lists, as statements; and settling in several calls. `list_call c f ts` is the promise of the call c
 -- on the frame f and the tasks ts; `most_passes ts` is 1 plus all that could be removed; `passes n f ts` are n passes in a row.
+use Rattle.std.specs.Prelude.{Ok, Err}
 use mathlib.Core.Path.{◌≡◌, refl, sym, ap, ◌∙◌, subst}
 use Prim.Native.Nat.{ℕ, suc, ◌+◌, ◌≤◌, ◌<◌}
 use native.Mathlib.Omega.{arith}
@@ -9,11 +10,8 @@ use borrow.Author.Tests.{ne_eqb}
 use Rattle.plan.specs.declared.Task.{Task}
 use Rattle.plan.specs.declared.Call.{Call}
 use Rattle.plan.specs.declared.Call.TheVariants.{Pass, Settle, Within, MostPasses}
-use Rattle.plan.specs.declared.Answer.TheVariants.{Done}
 use Rattle.plan.specs.declared.Refusal.{Refusal}
-use Rattle.plan.specs.declared.Checked.{Checked}
-use Rattle.plan.specs.declared.Checked.TheVariants.{Accepted}
-use Rattle.plan.specs.Refusals.{number, place, Told, told, told_answer}
+use Rattle.plan.specs.Refusals.{number, place, Told, told, told_answer, Checked, accepted}
 use Rattle.plan.proofs.Refusals.{number_ends}
 use Rattle.rules.specs.Frame.{Frame}
 use Rattle.rules.specs.Balance.Outcome.{NoPlan, Plan}
@@ -31,24 +29,24 @@ use Rattle.rules.proofs.Theorems.{settle_settles, settle_bound, refusal_bound, s
 use Rattle.rules.proofs.CallTheorems.{entry_refused, none_accepted, settle_done, settle_none, pass_none}
 
 -- the call, by what settling within so many passes comes to
-within_call : (f : Frame) (most : ℕ) (ts : List Task) → check f ts ≡ Accepted → (s : Settled) → settle_within most f ts ≡ s → list_call (Within most) f ts ≡ list_result (told_answer (settled ts s).answer) (settled ts s).tasks
+within_call : (f : Frame) (most : ℕ) (ts : List Task) → check f ts ≡ accepted → (s : Settled) → settle_within most f ts ≡ s → list_call (Within most) f ts ≡ list_result (told_answer (settled ts s).answer) (settled ts s).tasks
 unfolding list_call call_of
 within_call f most ts ok s e = rw (ok, e)
 
 -- ---- what settling came to, by what the call says
 module _ (f : Frame) (ts : List Task) where
   -- told as done, so the lists passed the checks
-  done_accepted : (c : Call) → (list_call c f ts).answer.number ≡ 0 → check f ts ≡ Accepted
+  done_accepted : (c : Call) → (list_call c f ts).answer.number ≡ 0 → check f ts ≡ accepted
   done_accepted c h = by_check (check f ts) refl
     where
-      by_check : (k : Checked) → check f ts ≡ k → check f ts ≡ Accepted
-      by_check Accepted e = e
-      by_check (Checked.Refused r) e =
+      by_check : (k : Checked) → check f ts ≡ k → check f ts ≡ accepted
+      by_check (Ok _) e = e
+      by_check (Err r) e =
           let n = (number_ends r).0 in
           let g = ap (λ (x : ListResult). x.answer.number) (entry_refused c f ts r e) in
           absurd (omega arith)
 
-  module _ (ok : check f ts ≡ Accepted) where
+  module _ (ok : check f ts ≡ accepted) where
     done_settled : (k : ℕ) (us : List Task) → list_call Settle f ts ≡ list_result (told 0 (k ∷ [])) us → settle f ts ≡ After k us
     done_settled k us e = by_settle (settle f ts) refl
       where
@@ -83,7 +81,7 @@ module _ (f : Frame) (ts : List Task) where
 -- ---- "How many passes at most", of any lists
 module _ (f : Frame) (ts : List Task) where
   -- the call that asks for it
-  pub most_done : check f ts ≡ Accepted → list_call MostPasses f ts ≡ list_result (told 0 (most_passes ts ∷ [])) ts
+  pub most_done : check f ts ≡ accepted → list_call MostPasses f ts ≡ list_result (told 0 (most_passes ts ∷ [])) ts
   unfolding list_call call_of
   most_done ok = rw ok
 
@@ -118,13 +116,13 @@ module _ (f : Frame) (ts : List Task) where
 -- ---- settling within so many passes, of any lists
 module _ (f : Frame) (ts : List Task) (most : ℕ) where
   -- where it is settling on lists that pass the checks, it is settling
-  by_entry : (check f ts ≡ Accepted → settle_within most f ts ≡ settle f ts) → call_of (Within most) f ts ≡ call_of Settle f ts
+  by_entry : (check f ts ≡ accepted → settle_within most f ts ≡ settle f ts) → call_of (Within most) f ts ≡ call_of Settle f ts
   unfolding call_of
   by_entry h = by_check (check f ts) refl
     where
       by_check : (k : Checked) → check f ts ≡ k → call_of (Within most) f ts ≡ call_of Settle f ts
-      by_check Accepted e = rw (e, h e)
-      by_check (Checked.Refused r) e = rw e
+      by_check (Ok _) e = rw (e, h e)
+      by_check (Err r) e = rw e
 
   -- with as many passes as the bound, or more
   pub call_within : most_passes ts ≤ most → call_of (Within most) f ts ≡ call_of Settle f ts
@@ -146,10 +144,10 @@ module _ (f : Frame) (ts : List Task) (most : ℕ) where
   within_done k us e l = rw (call_counted k us e l)
 
   -- whatever else than "no count" it answers, settling answers too, and leaves what it leaves
-  pub call_told : ((call_of (Within most) f ts).answer ≡ Done 0 → ⊥) → call_of (Within most) f ts ≡ call_of Settle f ts
+  pub call_told : ((call_of (Within most) f ts).answer ≡ Ok 0 → ⊥) → call_of (Within most) f ts ≡ call_of Settle f ts
   call_told h = by_entry (λ ok. by_within ok (settle_within most f ts) refl)
     where
-      by_within : (ok : check f ts ≡ Accepted) (s : Settled) → settle_within most f ts ≡ s → settle_within most f ts ≡ settle f ts
+      by_within : (ok : check f ts ≡ accepted) (s : Settled) → settle_within most f ts ≡ s → settle_within most f ts ≡ settle f ts
       by_within ok Refused e = e ∙ sym (refused_within f most ts ok e)
       by_within ok (After k us) e = e ∙ sym (settled_within f most ts ok k us e).2
       by_within ok (Unsettled us) e =
@@ -160,12 +158,12 @@ module _ (f : Frame) (ts : List Task) (most : ℕ) where
   within_told h = rw (call_told (λ e. h (ap told_answer e)))
 
   -- 7, if one of so many passes finds no plan
-  pub within_fails : check f ts ≡ Accepted → passes most f ts ≡ NoPlan → list_call (Within most) f ts ≡ list_result (told 7 (0 ∷ [])) ts
+  pub within_fails : check f ts ≡ accepted → passes most f ts ≡ NoPlan → list_call (Within most) f ts ≡ list_result (told 7 (0 ∷ [])) ts
   unfolding list_call call_of
   within_fails ok e = rw (ok, within_none f most ts ok e)
 
   -- else, if settling counts more, or none, the plan after so many passes, with a count of 0
-  pub within_leaves : check f ts ≡ Accepted → (us : List Task) → passes most f ts ≡ Plan us → ((k : ℕ) (vs : List Task) → list_call Settle f ts ≡ list_result (told 0 (k ∷ [])) vs → most < k) → list_call (Within most) f ts ≡ list_result no_count us
+  pub within_leaves : check f ts ≡ accepted → (us : List Task) → passes most f ts ≡ Plan us → ((k : ℕ) (vs : List Task) → list_call Settle f ts ≡ list_result (told 0 (k ∷ [])) vs → most < k) → list_call (Within most) f ts ≡ list_result no_count us
   within_leaves ok us e m = leaves (within_left f most ts ok us e (λ k vs s. m k vs (settle_done f ts ok k vs s)))
     where
       leaves : settle_within most f ts ≡ Unsettled us → list_call (Within most) f ts ≡ list_result no_count us
@@ -186,14 +184,14 @@ comes_plus before m (After k us) r h =
 comes_plus before m (Unsettled us) r h = h
 
 module _ (f : Frame) where
-  again_comes : (mosts : List ℕ) (before : ℕ) (ts : List Task) → check f ts ≡ Accepted → Comes before (settle_within (in_all mosts) f ts) (settle_again before mosts f ts)
+  again_comes : (mosts : List ℕ) (before : ℕ) (ts : List Task) → check f ts ≡ accepted → Comes before (settle_within (in_all mosts) f ts) (settle_again before mosts f ts)
   unfolding settle_within in_all settle_again
   again_comes [] before ts ok = refl
   again_comes (m ∷ mosts) before ts ok =
       subst (λ (s : Settled). Comes before s (settle_again before (m ∷ mosts) f ts)) (sym (within_onward f m (in_all mosts) ts))
       (go (settle_within m f ts) refl (again_comes mosts (before + m)))
     where
-      go : (s : Settled) → settle_within m f ts ≡ s → ((us : List Task) → check f us ≡ Accepted → Comes (before + m) (settle_within (in_all mosts) f us) (settle_again (before + m) mosts f us)) → Comes before (onward m (settle_within (in_all mosts) f) s) (settle_again before (m ∷ mosts) f ts)
+      go : (s : Settled) → settle_within m f ts ≡ s → ((us : List Task) → check f us ≡ accepted → Comes (before + m) (settle_within (in_all mosts) f us) (settle_again (before + m) mosts f us)) → Comes before (onward m (settle_within (in_all mosts) f) s) (settle_again before (m ∷ mosts) f ts)
       go Refused e k = rw (within_call f m ts ok Refused e)
       go (After j us) e k =
           let some = (settled_within f m ts ok j us e).0 in
@@ -206,7 +204,7 @@ module _ (f : Frame) where
 -- calls of so many passes at most, on any lists, with none made before
 module _ (f : Frame) (ts : List Task) where
   -- lists that the checks refuse are refused by the first of them
-  first_refuses : (e : Refusal) → check f ts ≡ Checked.Refused e → (most : ℕ) (mosts : List ℕ) → settle_again 0 (most ∷ mosts) f ts ≡ list_result (told (number e) (place e ∷ [])) ts
+  first_refuses : (e : Refusal) → check f ts ≡ Err e → (most : ℕ) (mosts : List ℕ) → settle_again 0 (most ∷ mosts) f ts ≡ list_result (told (number e) (place e ∷ [])) ts
   unfolding settle_again
   first_refuses e h most mosts =
       let n = (number_ends e).0 in
@@ -219,13 +217,13 @@ module _ (f : Frame) (ts : List Task) where
     abbrev Settles : Type 0
     Settles = (again.answer ≡ (list_call Settle f ts).answer) × (again.answer.number ≡ 0 → again.tasks ≡ (list_call Settle f ts).tasks)
 
-    refused_settles : (e : Refusal) → check f ts ≡ Checked.Refused e → again ≡ list_result (told (number e) (place e ∷ [])) ts → Settles
+    refused_settles : (e : Refusal) → check f ts ≡ Err e → again ≡ list_result (told (number e) (place e ∷ [])) ts → Settles
     refused_settles e h g =
         let n = (number_ends e).0 in
         let m = ap (λ (r : ListResult). r.answer.number) g in
         (ap (λ (r : ListResult). r.answer) (g ∙ sym (entry_refused Settle f ts e h)), λ z. absurd (omega arith))
 
-    accepted_settles : check f ts ≡ Accepted → (again.answer ≡ no_count → ⊥) → Settles
+    accepted_settles : check f ts ≡ accepted → (again.answer ≡ no_count → ⊥) → Settles
     accepted_settles ok reported = go (settle_within (in_all mosts) f ts) refl (again_comes f mosts 0 ts ok)
       where
         go : (s : Settled) → settle_within (in_all mosts) f ts ≡ s → Comes 0 s again → Settles
@@ -239,7 +237,7 @@ module _ (f : Frame) (ts : List Task) where
             (ap (λ (r : ListResult). r.answer) same, λ z. ap (λ (r : ListResult). r.tasks) same)
         go (Unsettled us) e h = absurd (reported (ap (λ (r : ListResult). r.answer) h))
 
-    accepted_ends : check f ts ≡ Accepted → most_passes ts ≤ in_all mosts → again.answer ≡ no_count → ⊥
+    accepted_ends : check f ts ≡ accepted → most_passes ts ≤ in_all mosts → again.answer ≡ no_count → ⊥
     accepted_ends ok l c = go (settle_within (in_all mosts) f ts) (within_most f ts ok (in_all mosts) l) refl (again_comes f mosts 0 ts ok)
       where
         go : (s : Settled) → settle_within (in_all mosts) f ts ≡ settle f ts → settle_within (in_all mosts) f ts ≡ s → Comes 0 s again → ⊥
@@ -256,9 +254,9 @@ module _ (f : Frame) (ts : List Task) where
   again_settles mosts reported = by_check (check f ts) refl mosts reported
     where
       by_check : (k : Checked) → check f ts ≡ k → (ms : List ℕ) → ((again ms).answer ≡ no_count → ⊥) → Settles ms
-      by_check Accepted e ms r = accepted_settles ms e r
-      by_check (Checked.Refused e) h [] r = absurd (r refl)
-      by_check (Checked.Refused e) h (m ∷ ms) r = refused_settles (m ∷ ms) e h (first_refuses e h m ms)
+      by_check (Ok _) e ms r = accepted_settles ms e r
+      by_check (Err e) h [] r = absurd (r refl)
+      by_check (Err e) h (m ∷ ms) r = refused_settles (m ∷ ms) e h (first_refuses e h m ms)
 
   -- and one does, once they may make as many passes as the bound
   pub again_ends : (mosts : List ℕ) → most_passes ts ≤ in_all mosts → (again mosts).answer ≡ no_count → ⊥
@@ -266,9 +264,9 @@ module _ (f : Frame) (ts : List Task) where
   again_ends mosts l c = by_check (check f ts) refl mosts l c
     where
       by_check : (k : Checked) → check f ts ≡ k → (ms : List ℕ) → most_passes ts ≤ in_all ms → (again ms).answer ≡ no_count → ⊥
-      by_check Accepted e ms l c = accepted_ends ms e l c
-      by_check (Checked.Refused e) h [] l c = omega arith
-      by_check (Checked.Refused e) h (m ∷ ms) l c =
+      by_check (Ok _) e ms l c = accepted_ends ms e l c
+      by_check (Err e) h [] l c = omega arith
+      by_check (Err e) h (m ∷ ms) l c =
           let n = (number_ends e).0 in
           let q = ap (λ (a : Told). a.number) (sym (ap (λ (r : ListResult). r.answer) (first_refuses e h m ms)) ∙ c) in
           omega arith

@@ -1,4 +1,5 @@
 -- A pass is a sequence of steps, settling is passes in a row: so what holds of sequences holds of both.
+use Rattle.plan.specs.Refusals.{accepted}
 use mathlib.Core.Path.{◌≡◌, refl, sym, ap, ◌∙◌, subst}
 use Prim.Native.Nat.{ℕ, zero, suc, ◌+◌, ◌≤◌, ◌<◌}
 use borrow.Author.Tests.{lt-ltb}
@@ -15,7 +16,6 @@ use Rattle.rules.specs.Settle.Settled.{Refused, After, Unsettled}
 use Rattle.rules.specs.Moves.{Move, move, play, one_pass, passes, many_passes}
 use Rattle.rules.specs.Moves.Move.{StepOf}
 use Rattle.rules.specs.Calls.{check}
-use Rattle.plan.specs.declared.Checked.TheVariants.{Accepted}
 use Rattle.rules.proofs.Keeps.{Sound, keeps_then, nothing_then, nothing_sound, play_sound}
 use Rattle.rules.specs.Keeps.{Keeps, HoldsNone}
 
@@ -36,7 +36,7 @@ steps_play f (suc n) k l ts =
     ap (λ (o : Outcome). then o (steps f (places_from (suc k) n))) (sym (move_step f k (omega arith) ts))
     ∙ then_same (move f (StepOf k) ts) (steps f (places_from (suc k) n)) (play f (map StepOf (places_from (suc k) n))) (steps_play f n (suc k) (omega arith))
 
-pub steps_sound : (f : Frame) (ts : List Task) → check f ts ≡ Accepted → Sound f ts (steps f (places f) ts)
+pub steps_sound : (f : Frame) (ts : List Task) → check f ts ≡ accepted → Sound f ts (steps f (places f) ts)
 unfolding places
 steps_sound f ts a = subst (Sound f ts) (sym (steps_play f (resource_count f) 0 (omega arith) ts)) (play_sound f (map StepOf (places f)) ts a)
 
@@ -45,7 +45,7 @@ unfolding pass play move places
 pass_play f ts =
     then_same (balance ts) (steps f (places f)) (play f (map StepOf (places f))) (steps_play f (resource_count f) 0 (omega arith))
 
-pub pass_sound : (f : Frame) (ts : List Task) → check f ts ≡ Accepted → Sound f ts (pass f ts)
+pub pass_sound : (f : Frame) (ts : List Task) → check f ts ≡ accepted → Sound f ts (pass f ts)
 pass_sound f ts a = subst (Sound f ts) (sym (pass_play f ts)) (play_sound f (one_pass f) ts a)
 
 -- ---- passes in a row
@@ -79,13 +79,13 @@ more_sound f us ts Refused h g = nothing_then h g
 more_sound f us ts (After n vs) h g = keeps_then h g
 more_sound f us ts (Unsettled vs) h g = keeps_then h g
 
-unless_same_sound : (f : Frame) (ts : List Task) (k : List Task → Settled) (o : Outcome) → Sound f ts o → ((us : List Task) → check f us ≡ Accepted → SettledSound f us (k us)) → SettledSound f ts (unless_same k ts o)
+unless_same_sound : (f : Frame) (ts : List Task) (k : List Task → Settled) (o : Outcome) → Sound f ts o → ((us : List Task) → check f us ≡ accepted → SettledSound f us (k us)) → SettledSound f ts (unless_same k ts o)
 unless_same_sound f ts k NoPlan h g = h
 unless_same_sound f ts k (Plan us) h g =
     if-case (SettledSound f ts) (same_tasks ts us) (After 1 us) (one_pass_more (k us)) (λ e. h)
     (λ e. more_sound f us ts (k us) h (g us h.accepted))
 
-pub settle_sound : (n : ℕ) (f : Frame) (ts : List Task) → check f ts ≡ Accepted → SettledSound f ts (settle_within n f ts)
+pub settle_sound : (n : ℕ) (f : Frame) (ts : List Task) → check f ts ≡ accepted → SettledSound f ts (settle_within n f ts)
 unfolding settle_within
 settle_sound zero f ts a = nothing_sound f ts a
 settle_sound (suc n) f ts a =

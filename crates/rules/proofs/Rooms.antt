@@ -1,5 +1,6 @@
 -- What could still be removed: it never grows, and a list with as much room as before is the same list. So a step that changes
 -- something takes room away.
+use Rattle.plan.specs.Refusals.{accepted}
 use mathlib.Core.Path.{◌≡◌, refl, sym, ap, ap₂, subst}
 use Prim.Native.Nat.{◌^◌, ◌≤◌, ◌<◌}
 use native.Mathlib.Omega.{arith}
@@ -23,7 +24,6 @@ use Rattle.rules.specs.Keeps.{SubTask, Subs, Keeps}
 use Rattle.rules.specs.Keeps.Subs.{no_subs, more_subs}
 use Rattle.rules.proofs.Checks.{check_live, check_wide}
 use Rattle.rules.specs.Calls.{check}
-use Rattle.plan.specs.declared.Checked.TheVariants.{Accepted}
 
 -- ---- the same list
 pub record SameRanges (a b : Task) : Type 0 where
@@ -142,7 +142,7 @@ less_changed us ts h =
     false_in (same_tasks ts us) (λ e. let q : rooms ts ≡ rooms us = ap rooms (same_tasks_is ts us e) in omega arith)
 
 -- ---- so for every sequence of steps
-module _ (f : Frame) (ts us : List Task) (a : check f ts ≡ Accepted) (h : Keeps f ts us) where
+module _ (f : Frame) (ts us : List Task) (a : check f ts ≡ accepted) (h : Keeps f ts us) where
   pub keeps_rooms : rooms us ≤ rooms ts
   keeps_rooms = rooms_le h.inside (check_live f us h.accepted)
 

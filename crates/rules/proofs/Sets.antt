@@ -1,4 +1,6 @@
 -- What a step can make of a task's set: it stays as it was, becomes r alone, or loses r.
+use Rattle.std.specs.Prelude.{Ok, Err}
+use Rattle.plan.specs.Refusals.{Narrowed}
 use mathlib.Core.Path.{◌≡◌, refl, ◌∙◌, subst}
 use mathlib.Core.Bool.{Bool, true, false}
 use mathlib.Core.List.{List}
@@ -10,8 +12,6 @@ use Rattle.integers.specs.Hull.{Range, Left, left}
 use Rattle.integers.specs.Hull.Left.{Nothing, Some}
 use Rattle.integers.proofs.Tests.{clash, false_in, if-case}
 use Rattle.plan.specs.declared.Task.{Task}
-use Rattle.plan.specs.declared.Narrowed.{Narrowed}
-use Rattle.plan.specs.declared.Narrowed.TheVariants.{Kept, RanOut}
 use Rattle.plan.specs.declared.Value.{Value}
 use Rattle.plan.specs.declared.Value.TheVariants.{Origin, Duration, End, Height, Set}
 use Rattle.plan.specs.Days.{days_of}
@@ -23,8 +23,8 @@ use Rattle.rules.specs.Step.{or_ran_out, running, needed, barred, keeps_origin, 
 
 -- what is kept has this set
 abbrev SetIs : ℕ → Narrowed → Type 0
-SetIs s (RanOut v) = Unit {0}
-SetIs s (Kept u) = u.set ≡ s
+SetIs s (Err v) = Unit {0}
+SetIs s (Ok u) = u.set ≡ s
 
 left_set : (s : ℕ) (v : Value) (l : Left) (k : Range → Narrowed) → ((x : Range) → SetIs s (k x)) → SetIs s (or_ran_out v l k)
 left_set s v Nothing k f = tt
@@ -39,9 +39,9 @@ module _ (r : ℕ) (limit : Floor) (ts : List Task) (days : List ℤ) (t : Task)
       left_set s Duration (left (keeps_duration r limit ts days t) (days_of t.duration)) _ λ d.
       left_set s End (left (keeps_end r limit ts days t) (days_of t.end)) _ λ e.
       left_set s Height (left (keeps_height r limit ts days t) (powers_of t.height)) _ λ h.
-      if-case (SetIs s) (eqb s 0) (RanOut Set) _ (λ q. tt) (λ q. refl)
+      if-case (SetIs s) (eqb s 0) (Err Set) _ (λ q. tt) (λ q. refl)
 
-  pub kept_set_is : (u : Task) → narrowed r limit ts days t ≡ Kept u → u.set ≡ kept_set r limit ts days t
+  pub kept_set_is : (u : Task) → narrowed r limit ts days t ≡ Ok u → u.set ≡ kept_set r limit ts days t
   kept_set_is u e = subst (SetIs (kept_set r limit ts days t)) e narrowed_set
 
   -- r is still in the set, beside another resource: no need spoke, and no bar took r

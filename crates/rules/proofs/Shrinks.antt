@@ -1,4 +1,6 @@
 -- What a step leaves: each new set and range lies inside the old one, and none is empty.
+use Rattle.std.specs.Prelude.{Ok, Err}
+use Rattle.plan.specs.Refusals.{Narrowed}
 use mathlib.Core.Path.{◌≡◌}
 use Prim.Native.Nat.{ℕ, ◌^◌}
 use mathlib.Core.List.{List, [], ◌∷◌, map}
@@ -16,8 +18,6 @@ use Rattle.integers.proofs.Hull.{LeftSub, left_sub, LeftFull, left_full}
 use Rattle.plan.specs.declared.Task.{Task}
 use Rattle.plan.specs.declared.Value.{Value}
 use Rattle.plan.specs.declared.Value.TheVariants.{Origin, Duration, End, Height, Set}
-use Rattle.plan.specs.declared.Narrowed.{Narrowed}
-use Rattle.plan.specs.declared.Narrowed.TheVariants.{Kept, RanOut}
 use Rattle.plan.specs.declared.Sense.{Sense}
 use Rattle.plan.specs.declared.Sense.TheVariants.{AtMost, AtLeast}
 use Rattle.plan.specs.Days.{days_of, cut_below, cut_above, cut_to, empty_span}
@@ -37,8 +37,8 @@ use Rattle.rules.specs.Keeps.{SubTask, Subs}
 use Rattle.rules.specs.Keeps.Subs.{no_subs, more_subs}
 
 abbrev TaskShrunk : Task → Narrowed → Type 0
-TaskShrunk t (RanOut v) = Unit {0}
-TaskShrunk t (Kept u) = SubTask u t × Live u
+TaskShrunk t (Err v) = Unit {0}
+TaskShrunk t (Ok u) = SubTask u t × Live u
 
 -- what a step, or some in a row, may leave of ts
 abbrev pub Shrunk : List Task → Outcome → Type 0
@@ -46,9 +46,9 @@ Shrunk ts NoPlan = Unit {0}
 Shrunk ts (Plan us) = Subs us ts × Lives us
 
 and_then_shrunk : (t : Task) (ts : List Task) (n : Narrowed) (o : Outcome) → TaskShrunk t n → Shrunk ts o → Shrunk (t ∷ ts) (and_then n o)
-and_then_shrunk t ts (RanOut v) o h g = tt
-and_then_shrunk t ts (Kept u) NoPlan h g = tt
-and_then_shrunk t ts (Kept u) (Plan us) h g = (more_subs h.0 g.0, also h.1 g.1)
+and_then_shrunk t ts (Err v) o h g = tt
+and_then_shrunk t ts (Ok u) NoPlan h g = tt
+and_then_shrunk t ts (Ok u) (Plan us) h g = (more_subs h.0 g.0, also h.1 g.1)
 
 -- a step that takes each task by itself shrinks the list where it shrinks each task
 abbrev EachShrunk : (Task → Narrowed) → List Task → Type 0
@@ -95,7 +95,7 @@ module _ (r : ℕ) (limit : Floor) (ts : List Task) (days : List ℤ) where
       left_shrunk t Duration sd (left kd sd) _ (left_sub kd sd) (left_full kd sd) λ d d-sub d-full.
       left_shrunk t End se (left ke se) _ (left_sub ke se) (left_full ke se) λ e e-sub e-full.
       left_shrunk t Height sh (left kh sh) _ (left_sub kh sh) (left_full kh sh) λ h h-sub h-full.
-      if-case (TaskShrunk t) (eqb (kept_set r limit ts days t) 0) (RanOut Set) _ (λ q. tt)
+      if-case (TaskShrunk t) (eqb (kept_set r limit ts days t) 0) (Err Set) _ (λ q. tt)
       (λ q. (
         record { set = kept_sub t; origin = o-sub; duration = d-sub; end = e-sub; height = h-sub },
         record { origin = o-full; duration = d-full; end = e-full; height = h-full; set = q },
@@ -154,11 +154,11 @@ cuts_set t l = l.set
 unless_shrunk : (t u : Task) → SubTask u t → u.height.low.0 ≤ℤ u.height.high.0 → eqb u.set 0 ≡ false → TaskShrunk t (unless_empty u)
 unfolding unless_empty
 unless_shrunk t u h p s =
-    if-case (TaskShrunk t) (empty_span u.origin) (RanOut Origin) _ (λ e. tt)
+    if-case (TaskShrunk t) (empty_span u.origin) (Err Origin) _ (λ e. tt)
     (λ a.
-    if-case (TaskShrunk t) (empty_span u.duration) (RanOut Duration) _ (λ e. tt)
+    if-case (TaskShrunk t) (empty_span u.duration) (Err Duration) _ (λ e. tt)
     (λ b.
-    if-case (TaskShrunk t) (empty_span u.end) (RanOut End) (Kept u) (λ e. tt)
+    if-case (TaskShrunk t) (empty_span u.end) (Err End) (Ok u) (λ e. tt)
     (λ c. (h, record { origin = omega z; duration = omega z; end = omega z; height = p; set = s }))))
 
 balanced_shrunk : (t : Task) → Live t → TaskShrunk t (balanced t)

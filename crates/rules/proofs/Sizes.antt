@@ -1,4 +1,5 @@
 -- How large the sums of a plan get: "the largest sum has a size of 256,000,000".
+use Rattle.plan.specs.Refusals.{accepted}
 use mathlib.Core.Path.{◌≡◌, refl, ap}
 use mathlib.Core.List.{List}
 use Prim.Native.Nat.{ℕ, suc, ◌*◌, ◌-◌, ◌<◌}
@@ -15,7 +16,6 @@ use Rattle.integers.proofs.Tests.{if-case}
 use Rattle.integers.proofs.Sums.{Near}
 use Rattle.integers.proofs.Lists.{each_so}
 use Rattle.plan.specs.declared.Task.{Task}
-use Rattle.plan.specs.declared.Checked.TheVariants.{Accepted}
 use Rattle.plan.specs.Powers.{power_high}
 use Rattle.plan.specs.Tasks.{most_tasks, Bounded}
 use Rattle.rules.specs.Frame.{Frame, resource_count, limit_on}
@@ -68,7 +68,7 @@ module _ (r : ℕ) (i : ℤ) where
 abbrev pub most_sum : ℕ
 most_sum = most_tasks * most_power
 
-module _ (f : Frame) (ts : List Task) (ok : check f ts ≡ Accepted) (r : ℕ) (i : ℤ) where
+module _ (f : Frame) (ts : List Task) (ok : check f ts ≡ accepted) (r : ℕ) (i : ℤ) where
   bounded : Each Bounded ts
   bounded = each_so (λ t h. h.ranges) (accepts f ts ok).tasks
 

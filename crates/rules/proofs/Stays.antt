@@ -1,9 +1,9 @@
 -- A choice stays inside what a step leaves: of one task, and of a list that is taken task by task.
+use Rattle.std.specs.Prelude.{Ok}
+use Rattle.plan.specs.Refusals.{Narrowed}
 use mathlib.Core.Path.{◌≡◌, refl}
 use mathlib.Core.List.{List, [], ◌∷◌}
 use Rattle.plan.specs.declared.Task.{Task}
-use Rattle.plan.specs.declared.Narrowed.{Narrowed}
-use Rattle.plan.specs.declared.Narrowed.TheVariants.{Kept}
 use Rattle.rules.specs.Allowed.{Choice}
 use Rattle.rules.specs.Balance.{Outcome, each}
 use Rattle.rules.specs.Balance.Outcome.{Plan}
@@ -14,7 +14,7 @@ use Rattle.rules.proofs.Inside.For.{here, later}
 -- a task is left, and c is inside it
 pub record TaskStays (c : Choice) (n : Narrowed) : Type 0 where
   pub task : Task
-  pub is : n ≡ Kept task
+  pub is : n ≡ Ok task
   pub inside : Inside task c
 
 -- there is a plan, and cs is inside it

@@ -1,7 +1,8 @@
 -- What follows from the page alone, as statements; the proofs are in the other files. `plans f ts` lists every allowed plan inside the sets
--- and ranges of ts, `count` is its length, `check f ts ≡ Accepted` says that ts passes the entry checks, `Keeps f ts us` that us has the very
+-- and ranges of ts, `count` is its length, `check f ts ≡ accepted` says that ts passes the entry checks, `Keeps f ts us` that us has the very
 -- same allowed plans, passes the checks again and lies inside ts, `HoldsNone f ts` that ts has none. Nothing is asked of the ranges beyond the
 -- checks: they may be unbalanced. The frame f is what no step changes.
+use Rattle.plan.specs.Refusals.{accepted}
 use mathlib.Core.Path.{◌≡◌, ap, subst}
 use Prim.Native.Nat.{ℕ, suc, ◌≤◌, ◌<◌}
 use mathlib.Core.List.{List, [], ◌∷◌, map}
@@ -13,7 +14,6 @@ use Rattle.integers.specs.Tests.{if, and, filter, all, any}
 use Rattle.integers.specs.Lists.{In}
 use Rattle.integers.proofs.Lists.{each_in}
 use Rattle.plan.specs.declared.Task.{Task}
-use Rattle.plan.specs.declared.Checked.TheVariants.{Accepted}
 use Rattle.rules.specs.Frame.{Frame, resource_count, Floor}
 use Rattle.rules.specs.Allowed.{Choice, inside_all, allowed}
 use Rattle.rules.specs.Listing.{listing, same_plan, plans, count}
@@ -35,7 +35,7 @@ use Rattle.rules.proofs.Unlisted.{shortfall_unlisted, needed_unlisted, barred_un
 use Rattle.rules.proofs.Once.{listed, plans_listed}
 use Rattle.rules.proofs.Ends.{Ended, settle_ends, settle_stopped}
 
-module _ (f : Frame) (ts : List Task) (ok : check f ts ≡ Accepted) where
+module _ (f : Frame) (ts : List Task) (ok : check f ts ≡ accepted) where
   -- ---- one step: the same choices are allowed inside what it leaves as inside what entered, and none where it finds no plan
   pub balance_keeps : (us : List Task) → balance ts ≡ Plan us → Keeps f ts us
   balance_keeps us e = subst (Sound f ts) e (balance_sound f ts ok)

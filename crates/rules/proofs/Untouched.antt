@@ -1,4 +1,5 @@
 -- A task that no rule touches on any day stays as it is: its set and ranges come out as they entered.
+use Rattle.std.specs.Prelude.{Ok}
 use mathlib.Core.Path.{◌≡◌}
 use Prim.Native.Nat.{ℕ}
 use mathlib.Core.List.{List}
@@ -12,7 +13,6 @@ use Rattle.integers.proofs.Z.{z, le_z_in}
 use Rattle.integers.proofs.Tests.{clash, and_in, implies_in, all_in, any_none, false_in, and_off}
 use Rattle.integers.proofs.Hull.{left_is}
 use Rattle.plan.specs.declared.Task.{Task}
-use Rattle.plan.specs.declared.Narrowed.TheVariants.{Kept}
 use Rattle.plan.specs.Days.{days_of}
 use Rattle.plan.specs.Powers.{powers_of}
 use Rattle.plan.specs.Sets.{has, only}
@@ -80,7 +80,7 @@ module _ (r : ℕ) (limit : Floor) (ts : List Task) (days : List ℤ) (t : Task)
             (λ i b. clash (and (barred r limit ts t i) (running r i t)) b (quiet i).leave),
       )
 
-  pub narrowed_untouched : Live t → narrowed r limit ts days t ≡ Kept t
+  pub narrowed_untouched : Live t → narrowed r limit ts days t ≡ Ok t
   unfolding narrowed
   narrowed_untouched l =
       rw (
@@ -111,5 +111,5 @@ module _ (r : ℕ) (t : Task) (away : has t.set r ≡ false) where
         (λ s. clash (sure r i t) s (sure_away i))
 
     -- so the step of r keeps it as it is
-    pub narrowed_away : (days : List ℤ) → Live t → narrowed r limit ts days t ≡ Kept t
+    pub narrowed_away : (days : List ℤ) → Live t → narrowed r limit ts days t ≡ Ok t
     narrowed_away days l = narrowed_untouched r limit ts days t untouched_away l

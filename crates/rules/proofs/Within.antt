@@ -1,12 +1,12 @@
 -- Settling within so many passes: what it leaves is what so many passes leave, it is settling wherever settling takes no more, and settling within
 -- more passes is to go on from there.
+use Rattle.plan.specs.Refusals.{accepted}
 use mathlib.Core.Path.{◌≡◌, refl, sym, ap, ◌∙◌, subst}
 use Prim.Native.Nat.{ℕ, zero, suc, ◌+◌, ◌≤◌, ◌<◌}
 use native.Mathlib.Omega.{arith}
 use mathlib.Core.List.{List}
 use Rattle.integers.proofs.Tests.{by_cases, if-case}
 use Rattle.plan.specs.declared.Task.{Task}
-use Rattle.plan.specs.declared.Checked.TheVariants.{Accepted}
 use Rattle.rules.specs.Frame.{Frame}
 use Rattle.rules.specs.Balance.{Outcome}
 use Rattle.rules.specs.Balance.Outcome.{NoPlan, Plan}
@@ -99,7 +99,7 @@ module _ (f : Frame) where
           (λ q. more_reached n ts us (settle_within n f us) (next (Plan us) e) (k us))
 
   -- ---- beside settling, on a plan that passes the checks
-  module _ (n : ℕ) (ts : List Task) (a : check f ts ≡ Accepted) where
+  module _ (n : ℕ) (ts : List Task) (a : check f ts ≡ accepted) where
     beyond : settle f ts ≡ onward n (settle_within (most_passes ts) f) (settle_within n f ts)
     beyond = sym (within_most f ts a (n + most_passes ts) (omega arith)) ∙ within_onward n (most_passes ts) ts
 

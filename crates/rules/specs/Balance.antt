@@ -1,9 +1,9 @@
 -- "Balance", and what a step gives: a plan, or none.
+use Rattle.std.specs.Prelude.{Ok, Err}
+use Rattle.plan.specs.Refusals.{Narrowed}
 use Rattle.std.specs.Prelude.{List, [], ◌∷◌, ◌+ℤ◌, ◌-ℤ◌}
 use Rattle.integers.specs.Tests.{if}
 use Rattle.plan.specs.declared.Task.{Task}
-use Rattle.plan.specs.declared.Narrowed.{Narrowed}
-use Rattle.plan.specs.declared.Narrowed.TheVariants.{Kept, RanOut}
 use Rattle.plan.specs.declared.Value.TheVariants.{Origin, Duration, End}
 use Rattle.plan.specs.Days.{cut_to, empty_span}
 
@@ -14,9 +14,9 @@ pub data Outcome : Type 0 where
 
 -- one task after a step, before those that follow it
 abbrev pub and_then : Narrowed → Outcome → Outcome
-and_then (RanOut v) o = NoPlan
-and_then (Kept t) NoPlan = NoPlan
-and_then (Kept t) (Plan ts) = Plan (t ∷ ts)
+and_then (Err v) o = NoPlan
+and_then (Ok t) NoPlan = NoPlan
+and_then (Ok t) (Plan ts) = Plan (t ∷ ts)
 
 -- a step that takes each task by itself
 unfoldable pub each : (Task → Narrowed) → List Task → Outcome
@@ -38,8 +38,8 @@ cuts t =
 -- the task, or the first of its ranges that is empty
 unfoldable pub unless_empty : Task → Narrowed
 unless_empty t =
-    if (empty_span t.origin) (RanOut Origin)
-    (if (empty_span t.duration) (RanOut Duration) (if (empty_span t.end) (RanOut End) (Kept t)))
+    if (empty_span t.origin) (Err Origin)
+    (if (empty_span t.duration) (Err Duration) (if (empty_span t.end) (Err End) (Ok t)))
 
 unfoldable pub balanced : Task → Narrowed
 balanced t = unless_empty (cuts t)

@@ -1,5 +1,6 @@
 -- "Numbered refusals" for lists, in their order: 1, 2, 3 over all resources, 4 over all, 13 over all bands, then task by task 5 before 6, then 12, then 7;
 -- and what each call answers and leaves, on any lists.
+use Rattle.std.specs.Prelude.{Ok, Err}
 use Rattle.std.specs.Prelude.{ℕ, suc, ◌^◌, List, [], ◌∷◌, Bool, true, false, not, ℤ, eqb, ltb, length}
 use Rattle.std.specs.Int.Signed.{lt_z}
 use Rattle.integers.specs.Whole.{eq_z}
@@ -8,14 +9,11 @@ use Rattle.integers.specs.Hull.{within, fits}
 use Rattle.plan.specs.declared.Task.{Task}
 use Rattle.plan.specs.declared.Resource.{Resource}
 use Rattle.plan.specs.declared.Band.{Band}
-use Rattle.plan.specs.declared.Checked.{Checked}
 use Rattle.plan.specs.declared.Refusal.{Refusal}
 use Rattle.plan.specs.declared.Refusal.TheVariants.{TooManyTasks, ResourceCount, RepeatedIdentifier, LimitOutside, RangeOutside, SetOutside, NoPlan, NoSuchResource, BandOutside}
 use Rattle.plan.specs.declared.Call.{Call}
 use Rattle.plan.specs.declared.Call.TheVariants.{Check, Balance, Step, Pass, Settle, Within, MostPasses}
-use Rattle.plan.specs.declared.Answer.{Answer}
-use Rattle.plan.specs.declared.Answer.TheVariants.{Done, Refused}
-use Rattle.plan.specs.Refusals.{Told, told_answer}
+use Rattle.plan.specs.Refusals.{Told, told_answer, Answer, Checked, accepted}
 use Rattle.plan.specs.Days.{days_of, day_ends, duration_ends}
 use Rattle.plan.specs.Powers.{powers_of, power_ends}
 use Rattle.plan.specs.Tasks.{most_tasks, most_resources, most_bands}
@@ -25,22 +23,22 @@ use Rattle.rules.specs.Step.{resource_step}
 use Rattle.rules.specs.Settle.{Settled, pass, settle_within, most_passes, settle}
 
 abbrev pub or_else : Checked → Checked → Checked
-or_else Checked.Accepted c = c
-or_else (Checked.Refused f) c = Checked.Refused f
+or_else (Ok _) c = c
+or_else (Err f) c = Err f
 
 abbrev pub refuse_if : Bool → Refusal → Checked
-refuse_if true f = Checked.Refused f
-refuse_if false f = Checked.Accepted
+refuse_if true f = Err f
+refuse_if false f = accepted
 
 -- 3: "an identifier repeats an earlier one; first resource that repeats". The earlier ones are listed with the latest first.
 unfoldable pub repeats : ℕ → List ℤ → List Resource → Checked
-repeats k seen [] = Checked.Accepted
+repeats k seen [] = accepted
 repeats k seen (q ∷ qs) =
     or_else (refuse_if (any (eq_z q.id) seen) (RepeatedIdentifier k)) (repeats (suc k) (q.id ∷ seen) qs)
 
 -- 4: "a limit outside its ends; first such resource"
 unfoldable pub limits : ℕ → List Resource → Checked
-limits k [] = Checked.Accepted
+limits k [] = accepted
 limits k (q ∷ qs) = or_else (refuse_if (not (within power_ends q.limit.0)) (LimitOutside k)) (limits (suc k) qs)
 
 -- 13: "a band out of order, beyond its ends, naming no resource, or a 65th, place the first such band, after 4 and before 5"
@@ -62,12 +60,12 @@ band_unless t k c = or_else (refuse_if (not t) (BandOutside k)) c
 
 -- band k and those after it, a being the one before
 unfoldable pub bands_after : ℕ → ℕ → Band → List Band → Checked
-bands_after n k a [] = Checked.Accepted
+bands_after n k a [] = accepted
 bands_after n k a (b ∷ bs) =
     band_unless (and (ltb k most_bands) (and (earlier a b) (band_fits n b))) k (bands_after n (suc k) b bs)
 
 unfoldable pub bands_fit : ℕ → List Band → Checked
-bands_fit n [] = Checked.Accepted
+bands_fit n [] = accepted
 bands_fit n (b ∷ bs) = band_unless (band_fits n b) 0 (bands_after n 1 b bs)
 
 -- 5: "a task's range is outside its ends, or low above high"
@@ -82,7 +80,7 @@ set_fits n t = and (not (eqb t.set 0)) (ltb t.set (2 ^ n))
 
 -- "task by task 5 before 6"
 unfoldable pub tasks_fit : ℕ → ℕ → List Task → Checked
-tasks_fit n k [] = Checked.Accepted
+tasks_fit n k [] = accepted
 tasks_fit n k (t ∷ ts) =
     or_else (refuse_if (not (ranges_fit t)) (RangeOutside k))
     (or_else (refuse_if (not (set_fits n t)) (SetOutside k)) (tasks_fit n (suc k) ts))
@@ -101,17 +99,17 @@ pub record Result : Type 0 where
   pub tasks : List Task
 
 abbrev pub refused : Refusal → List Task → Result
-refused f ts = record { answer = Refused f; tasks = ts }
+refused f ts = record { answer = Err f; tasks = ts }
 
 -- settled after so many passes ("a refusal reports 0"), or so many passes at most; every other call reports 0, settling too where the passes that it
 -- may make were too few
 abbrev pub done : ℕ → List Task → Result
-done n ts = record { answer = Done n; tasks = ts }
+done n ts = record { answer = Ok n; tasks = ts }
 
 -- "Every public call checks its own input."
 abbrev pub unless_refused : Checked → List Task → Result → Result
-unless_refused Checked.Accepted ts x = x
-unless_refused (Checked.Refused f) ts x = refused f ts
+unless_refused (Ok _) ts x = x
+unless_refused (Err f) ts x = refused f ts
 
 -- 7: "a step finds no plan"
 abbrev pub stepped : List Task → Outcome → Result
@@ -164,8 +162,8 @@ unfoldable pub list_calls : List Call → Frame → List Task → List Task
 list_calls [] f ts = ts
 list_calls (c ∷ cs) f ts = list_calls cs f (list_call c f ts).tasks
 
--- ---- what a call answers and leaves, of tasks ts that entered and tasks us that the engine's own rows hold now: a refusal leaves ts, whatever these
--- rows hold, for nothing of them is stored then
+-- ---- what a call answers and leaves, of tasks ts that entered and tasks us that the engine's own list holds now: a refusal leaves ts, whatever that list
+-- holds, for nothing of it is stored then
 abbrev pub result_of : Answer → List Task → List Task → Result
-result_of (Done n) ts us = done n us
-result_of (Refused f) ts us = refused f ts
+result_of (Ok n) ts us = done n us
+result_of (Err f) ts us = refused f ts

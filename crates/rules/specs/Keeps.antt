@@ -1,8 +1,8 @@
 -- What it means that a step loses nothing: the words in which demand 3 is stated.
+use Rattle.plan.specs.Refusals.{accepted}
 use Rattle.std.specs.Prelude.{◌≡◌, true, false, List, [], ◌∷◌}
 use Rattle.integers.specs.Hull.{Sub}
 use Rattle.plan.specs.declared.Task.{Task}
-use Rattle.plan.specs.declared.Checked.TheVariants.{Accepted}
 use Rattle.plan.specs.Days.{days_of}
 use Rattle.plan.specs.Powers.{powers_of}
 use Rattle.plan.specs.Sets.{SubSet}
@@ -29,7 +29,7 @@ pub data Subs : List Task → List Task → Type 0 where
 pub record Keeps (f : Frame) (ts us : List Task) : Type 0 where
   pub choices : (cs : List Choice) → allowed f cs ≡ true → inside_all us cs ≡ inside_all ts cs
   pub same : plans f us ≡ plans f ts
-  pub accepted : check f us ≡ Accepted
+  pub accepted : check f us ≡ accepted
   pub inside : Subs us ts
 
 -- "the ranges entered held none": no choice inside ts is allowed, and none is listed

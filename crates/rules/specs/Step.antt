@@ -1,4 +1,6 @@
 -- "Resource step, sense at least, resource r, limit L, day i": day by day and value by value, everything from the ranges that entered.
+use Rattle.std.specs.Prelude.{Ok, Err}
+use Rattle.plan.specs.Refusals.{Narrowed}
 use Rattle.std.specs.Prelude.{ℕ, ◌^◌, List, [], ◌∷◌, map, Bool, not, ℤ, pos, ◌+ℤ◌, ◌-ℤ◌, neg_ℤ, eqb}
 use Rattle.std.specs.Int.Signed.{le_z, lt_z}
 use Rattle.integers.specs.Whole.{larger}
@@ -12,8 +14,6 @@ use Rattle.plan.specs.declared.Sense.{Sense}
 use Rattle.plan.specs.declared.Sense.TheVariants.{AtMost, AtLeast}
 use Rattle.plan.specs.declared.Value.{Value}
 use Rattle.plan.specs.declared.Value.TheVariants.{Origin, Duration, End, Height, Set}
-use Rattle.plan.specs.declared.Narrowed.{Narrowed}
-use Rattle.plan.specs.declared.Narrowed.TheVariants.{Kept, RanOut}
 use Rattle.plan.specs.Days.{days_of, span_of}
 use Rattle.plan.specs.Powers.{powers_of, power_span_of, negated_powers}
 use Rattle.plan.specs.Sets.{has, only, without}
@@ -23,7 +23,7 @@ use Rattle.rules.specs.Balance.Outcome.{NoPlan, Plan}
 
 -- "an origin or end range runs from its smallest to its largest value left"; "A set or range left empty means no plan": that value ran out
 abbrev pub or_ran_out : Value → Left → (Range → Narrowed) → Narrowed
-or_ran_out v Nothing k = RanOut v
+or_ran_out v Nothing k = Err v
 or_ran_out v (Some s) k = k s
 
 module _ (r : ℕ) where
@@ -131,8 +131,8 @@ module _ (r : ℕ) where
           or_ran_out Duration (left keeps_duration (days_of t.duration)) λ d.
           or_ran_out End (left keeps_end (days_of t.end)) λ e.
           or_ran_out Height (left keeps_height (powers_of t.height)) λ h.
-          if (eqb kept_set 0) (RanOut Set)
-          (Kept (record { set = kept_set; origin = span_of o; duration = span_of d; end = span_of e; height = power_span_of h }))
+          if (eqb kept_set 0) (Err Set)
+          (Ok (record { set = kept_set; origin = span_of o; duration = span_of d; end = span_of e; height = power_span_of h }))
 
 -- the days listed: from the least origin low to the greatest end high. On any other day no task is possible, and no such day counts, so no rule
 -- speaks of it.

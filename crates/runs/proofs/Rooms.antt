@@ -1,25 +1,27 @@
 -- What the room of a lent band list, and a file without bands, say of the run.
+use Rattle.std.specs.Prelude.{Ok, Err}
+use Rattle.plan.specs.Refusals.{accepted}
 use mathlib.Core.Path.{◌≡◌, refl}
 use mathlib.Core.Bool.{false}
 use mathlib.Core.List.{List, ◌++◌}
 use Prim.Native.Nat.{ℕ, zero, suc, ◌+◌, ◌≤◌, min}
 use native.Mathlib.Omega.{arith}
 use lib.Dec.{ltb}
-use lib.IntN.{ℤ}
 use lib.ListN.{length, drop}
 use lib.Seq.{take-append-le}
 use borrow.Author.Tests.{lt-ltb, ltb-true, ltb-false}
 use Rattle.integers.proofs.Tests.{by_cases}
-use Rattle.plan.specs.declared.Checked.TheVariants.{Accepted}
+use Rattle.plan.specs.declared.Resource.{Resource}
+use Rattle.plan.specs.declared.Band.{Band}
+use Rattle.plan.specs.declared.Task.{Task}
 use Rattle.plan.specs.Tasks.{most_bands}
 use Rattle.format.specs.declared.Mark.TheVariants.{LB}
 use Rattle.format.specs.declared.Header.{Header}
-use Rattle.format.specs.declared.Run.{Run}
 use Rattle.format.specs.Format.{size, marked, bands_from}
-use Rattle.format.specs.Reading.{band_run, band_due, each_band_due, looked_at, bands_due, band_count, body_due, read_body, read_after, header_plan, read_through, RunWithin}
+use Rattle.format.specs.Reading.{Run, band_run, band_due, each_band_due, looked_at, bands_due, band_count, body_due, read_body, read_after, header_plan, read_through, RunWithin}
 
 -- no mark stands at the place: no band, for a list of any room
-pub no_bands : (room : ℕ) (file : List ℕ) (at : ℕ) → marked LB (drop at file) ≡ false → (bands_due room file at ≡ Accepted) × (band_count file at ≡ 0)
+pub no_bands : (room : ℕ) (file : List ℕ) (at : ℕ) → marked LB (drop at file) ≡ false → (bands_due room file at ≡ accepted) × (band_count file at ≡ 0)
 unfolding bands_due band_count each_band_due band_run
 no_bands room file at m = (rw m, rw m)
 
@@ -42,7 +44,7 @@ module _ (room : ℕ) (h : most_bands ≤ room) where
   unfolding bands_due
   bands_roomy file at = each_roomy looked_at 0 at (drop at file)
 
--- so the rows that we read into need no more places than that
+-- so the list that we read into needs no more places than that
 pub after_roomy : (room : ℕ) (h : Header) (file : List ℕ) → read_after (min room most_bands) h file ≡ read_after room h file
 unfolding read_after read_body body_due
 after_roomy room h file =
@@ -53,7 +55,7 @@ after_roomy room h file =
     let most : min room most_bands ≡ most_bands = omega arith in
     rw (most, bands_roomy room l file (bands_from h.resources)))
 
--- ---- bands read into the first rows of a longer list stand in the list
-pub part_through : (r : Run) (h : Header) (q b d s : List (List ℤ)) → RunWithin r (length b) → read_through r (header_plan h q (b ++ d) s) ≡ read_through r (header_plan h q b s)
-part_through (Run.Through k) h q b d s w = rw (take-append-le k b d w)
-part_through (Run.Refused f) h q b d s w = refl
+-- ---- bands read into the first places of a longer list stand in the list
+pub part_through : (r : Run) (h : Header) (q : List Resource) (b d : List Band) (s : List Task) → RunWithin r (length b) → read_through r (header_plan h q (b ++ d) s) ≡ read_through r (header_plan h q b s)
+part_through (Ok k) h q b d s w = rw (take-append-le k b d w)
+part_through (Err f) h q b d s w = refl

@@ -1,20 +1,25 @@
--- The longest duration that misses a day of every part that is hit, part by part.
+-- The longest duration that misses a day of every part, part by part.
 -- Day by day, a part of days a .. b - 1 leaves the least room of its days: that of a or of b - 1, or half the reach if the middle lies
 -- between them.
 use mathlib.Core.Path.{◌≡◌}
-use mathlib.Core.Bool.{Bool, true}
+use mathlib.Core.Bool.{Bool, true, not}
 use mathlib.Core.List.{List, [], ◌∷◌, foldl}
+use Rattle.std.specs.Prelude.{Option, None, Some}
 use lib.IntN.{ℤ, pos, ◌+ℤ◌, ◌-ℤ◌, pred_ℤ}
 use lib.Signed.{lt_z, ◌≤ℤ◌, ◌<ℤ◌}
 use Rattle.integers.specs.Tests.{and}
 use Rattle.integers.specs.Whole.{larger, smaller}
-use Rattle.integers.proofs.Z.{z, +z, -z, maxz, minz, predz, lt_z_in}
-use Rattle.integers.proofs.Tests.{clash, if-case, and_first, and_second, and_in}
+use Rattle.integers.proofs.Z.{z, +z, -z, maxz, minz, predz}
 use Rattle.stretches.specs.declared.Stretch.{Stretch}
 use Rattle.searches.specs.declared.Days.{Days}
-use Rattle.searches.specs.declared.Part.{Part}
-use Rattle.searches.specs.Searches.{on_part, hit_days, room, Longest, Half, shorter}
-use Rattle.searches.proofs.Parts.{lt_cases, on_part_is, on_part_in, hit_none, hit_first, hit_later, hit_cases, long_so}
+use Rattle.searches.specs.declared.Reach.{Reach}
+use Rattle.searches.specs.Searches.{holds, shared, part_of, barred_part, on_part, hit_days, room, Longest, Half}
+use Rattle.searches.proofs.Parts.{lt_cases, some_is, some_in, none_is, part_cases, hit_none, hit_first, hit_later, hit_cases, long_so}
+
+-- the longest duration that misses one day of the part, if that is shorter than r
+abbrev pub shorter : Days → ℤ → Option Days → ℤ → ℤ
+shorter w h None r = r
+shorter w h (Some p) r = smaller r (larger h (larger (p.from.0 -ℤ w.from.0) (w.to.0 -ℤ p.to.0)))
 
 module _ (w : Days) (h : ℤ) (half : Half w h) where
   abbrev low : ℤ
@@ -73,48 +78,43 @@ module _ (w : Days) (h : ℤ) (half : Half w h) where
         }
 
   -- the longest that misses it
-  cut_once : (p : Part) (r : ℤ) → Longest (λ i. on_part i p) w r (shorter p w h r)
-  cut_once p r =
-      let a = p.from.0 in
-      let b = p.to.0 in
-      let y = rest a b in
-      if-case (Longest (λ i. on_part i p) w r) (and p.hit (lt_z a b)) (smaller r y) r
-      (λ e.
-      let f : lt_z a b ≡ true = and_second p.hit _ e in
-      let x = meets a b (omega z) in
+  cut_once : (u : Days) (s : Stretch) (b : Bool) (r : ℤ) → Longest (λ i. on_part i (part_of u s b)) w r (shorter w h (part_of u s b) r)
+  cut_once u s b r =
+      part_cases (λ (p : Option Days). Longest (λ i. on_part i p) w r (shorter w h p r)) u s b
+      (λ e l.
+      let p = shared u s in
+      let y = rest p.from.0 p.to.0 in
+      let x = meets p.from.0 p.to.0 l in
       record {
         most = omega (z, minz r y);
-        cut =
-            λ v m n.
-            record { day = x.day; bad = on_part_in p x.day (and_first _ _ e) x.late x.early; over = omega (z, minz r y, x.tight) };
-        kept = λ v m t. let o = on_part_is p t.day t.bad in omega (z, minz r y, misses a b t.day o.late o.early, t.over);
+        cut = λ v m n. record { day = x.day; bad = some_in p x.day x.late x.early; over = omega (z, minz r y, x.tight) };
+        kept = λ v m t. let o = some_is p t.day t.bad in omega (z, minz r y, misses p.from.0 p.to.0 t.day o.late o.early, t.over);
       })
-      (λ e.
-      record {
-        most = omega z;
-        cut = λ v m n. absurd (omega z);
-        kept = λ v m t. let o = on_part_is p t.day t.bad in clash _ (and_in _ _ o.hit (lt_z_in a b (omega (z, o.late, o.early)))) e;
-      })
+      (λ e. record { most = omega z; cut = λ v m n. absurd (omega z); kept = λ v m t. none_is t.day t.bad })
 
   -- ---- all parts
-  pub longest_of : (part : Stretch → Part) (ss : List Stretch) (m : ℤ) → Longest (hit_days part ss) w m (foldl (λ r s. shorter (part s) w h r) m ss)
-  longest_of part [] m = record { most = omega z; cut = λ v a b. absurd (omega z); kept = λ v a t. hit_none part t.day t.bad }
-  longest_of part (s ∷ ss) m =
-      let r = shorter (part s) w h m in
-      let x = cut_once (part s) m in
-      let t = longest_of part ss r in
-      record {
-        most = omega (z, x.most, t.most);
-        cut =
-            λ v a b.
-            lt_cases r v (λ c. long_so (λ i. hit_first part i s ss) (x.cut v c b))
-            (λ c. long_so (λ i. hit_later part i s ss) (t.cut v a c));
-        kept =
-            λ v a y.
-            hit_cases part y.day s ss y.bad
-            (λ o. x.kept v (omega (z, t.most)) (record { day = y.day; bad = o; over = y.over }))
-            (λ o. t.kept v a (record { day = y.day; bad = o; over = y.over }));
-      }
+  module _ (x : Reach) where
+    abbrev part : Stretch → Option Days
+    part = barred_part x
+
+    pub longest_of : (ss : List Stretch) (m : ℤ) → Longest (hit_days part ss) w m (foldl (λ r s. shorter w h (part s) r) m ss)
+    longest_of [] m = record { most = omega z; cut = λ v a b. absurd (omega z); kept = λ v a t. hit_none part t.day t.bad }
+    longest_of (s ∷ ss) m =
+        let r = shorter w h (part s) m in
+        let y = cut_once x.days s (and (lt_z s.slack.0 x.bar.0) (not (holds x.sure s.from.0))) m in
+        let t = longest_of ss r in
+        record {
+          most = omega (z, y.most, t.most);
+          cut =
+              λ v a b.
+              lt_cases r v (λ c. long_so (λ i. hit_first part i s ss) (y.cut v c b))
+              (λ c. long_so (λ i. hit_later part i s ss) (t.cut v a c));
+          kept =
+              λ v a k.
+              hit_cases part k.day s ss k.bad
+              (λ o. y.kept v (omega (z, t.most)) (record { day = k.day; bad = o; over = k.over }))
+              (λ o. t.kept v a (record { day = k.day; bad = o; over = k.over }));
+        }
 
 -- a duration of at most half the reach is never too long
 pub longest_half : (q : ℤ → Bool) (w : Days) (h m : ℤ) → Half w h → m ≤ℤ h → Longest q w m m

@@ -9,7 +9,7 @@ use Rattle.plan.specs.declared.Span.{Span}
 use Rattle.plan.specs.Days.{day}
 use Rattle.searches.specs.Searches.{Hit, FirstFree, LastFree, Freed, FreedEnds, earlier, later}
 
-module _ (q : ℤ → Bool) (d : ℤ) (s : Span) where
+module _ (q : ℤ → Bool) (d : ℤ) (s : Span Day) where
   -- every value is free
   whole : ((v : ℤ) → Hit q d v → ⊥) → Freed q d s s
   whole f =
@@ -54,7 +54,7 @@ module _ (q : ℤ → Bool) (d : ℤ) (s : Span) where
 moved : (a d : ℤ) → (a +ℤ d) -ℤ d ≡ a
 moved a d = omega (z, +z a d, -z (a +ℤ d) d)
 
-pub freed_ends : (q : ℤ → Bool) (d : ℤ) (s o : Span) → Freed q d (earlier d s) o → FreedEnds q d s (later d o)
+pub freed_ends : (q : ℤ → Bool) (d : ℤ) (s o : Span Day) → Freed q d (earlier d s) o → FreedEnds q d s (later d o)
 freed_ends q d s o f =
     let e : o ≡ earlier d (later d o) = ap₂ (λ (x y : ℤ). record { low = day x; high = day y }) (sym (moved o.low.0 d)) (sym (moved o.high.0 d)) in
-    subst (λ (x : Span). Freed q d (earlier d s) x) e f
+    subst (λ (x : Span Day). Freed q d (earlier d s) x) e f

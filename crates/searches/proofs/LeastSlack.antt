@@ -6,17 +6,18 @@ use Prim.Native.Nat.{ℕ, zero, suc, ◌≤◌, suc-le-suc, zero-le}
 use native.Mathlib.Nat.{not-suc-le-zero, le_of_suc-le-suc}
 use lib.ListN.{length, get_or}
 use lib.IntN.{ℤ}
+use Rattle.std.specs.Prelude.{Option}
+use Rattle.std.specs.Option.{is_some}
 use lib.Signed.{lt_z, ◌≤ℤ◌, ◌<ℤ◌}
-use Rattle.integers.specs.Tests.{and}
-use Rattle.integers.specs.Whole.{larger, smaller}
+use Rattle.integers.specs.Tests.{if, and}
 use Rattle.integers.proofs.Z.{z, maxz, minz, lt_z_in}
-use Rattle.integers.proofs.Tests.{clash, if-case, and_first, and_second, and_in}
+use Rattle.integers.proofs.Tests.{clash, by_cases, if-case, and_first, and_second, and_in}
 use Rattle.plan.specs.declared.Power.{Power}
 use Rattle.stretches.specs.declared.Stretch.{Stretch}
 use Rattle.stretches.specs.View.{no_stretch, on_day}
 use Rattle.stretches.proofs.View.{on_out, on_in}
 use Rattle.searches.specs.declared.Days.{Days}
-use Rattle.searches.specs.Searches.{holds, Slack, Least, lowered}
+use Rattle.searches.specs.Searches.{holds, shared, meets, part_of, Slack, Least}
 use Rattle.searches.proofs.Parts.{lt_cases, holds_in, holds_is}
 
 module _ (w : Days) where
@@ -32,19 +33,27 @@ module _ (w : Days) where
     met : y <ℤ x → Shares s × (s.slack.0 ≡ y)
     under : (i : ℤ) → holds w i ≡ true → on_day i s ≡ true → y ≤ℤ s.slack.0
 
-  lower : (s : Stretch) (x : Power) → Lowered s x.0 (lowered s w x).0
+  -- x, or the stretch's slack where that is lower and one of its days is among w's
+  abbrev pub lowered : Stretch → Power → Power
+  lowered s x = if (and (lt_z s.slack.0 x.0) (meets w s)) s.slack x
+
+  -- as the code finds it
+  pub some_met : (s : Stretch) {p : Option Days} → p ≡ part_of w s true → is_some p ≡ meets w s
+  some_met s is = by_cases (meets w s) (λ e. rw (is, e)) (λ e. rw (is, e))
+
+  lower : (s : Stretch) (x : Power) → Lowered s x.0 (lowered s x).0
   lower s x =
-      let a = larger s.from.0 w.from.0 in
-      let b = smaller s.to.0 w.to.0 in
+      let a = (shared w s).from.0 in
+      let b = (shared w s).to.0 in
       let la = maxz s.from.0 w.from.0 in
       let lb = minz s.to.0 w.to.0 in
-      if-case (λ (y : Power). Lowered s x.0 y.0) (and (lt_z a b) (lt_z s.slack.0 x.0)) s.slack x
+      if-case (λ (y : Power). Lowered s x.0 y.0) (and (lt_z s.slack.0 x.0) (meets w s)) s.slack x
       (λ e.
-      let f : lt_z a b ≡ true = and_first _ _ e in
-      let g : lt_z s.slack.0 x.0 ≡ true = and_second (lt_z a b) _ e in
+      let f : lt_z a b ≡ true = and_second (lt_z s.slack.0 x.0) _ e in
+      let g : lt_z s.slack.0 x.0 ≡ true = and_first _ _ e in
       record {
         most = omega z;
-        met = λ h. (record { day = a; among = holds_in w a (omega (z, la)) (omega (z, lb)); on = on_in s a (omega (z, la)) (omega (z, lb)) }, refl);
+        met = λ h. (record { day = a; among = holds_in w a (omega z) (omega z); on = on_in s a (omega z) (omega z) }, refl);
         under = λ i h k. omega z;
       })
       (λ e.
@@ -56,7 +65,7 @@ module _ (w : Days) where
             let m = holds_is w i h in
             let n = on_out s i k in
             lt_cases s.slack.0 x.0
-            (λ l. clash _ (and_in _ _ (lt_z_in a b (omega (z, la, lb))) (lt_z_in s.slack.0 x.0 l)) e)
+            (λ l. clash _ (and_in _ _ (lt_z_in s.slack.0 x.0 l) (lt_z_in a b (omega z))) e)
             (λ l. l);
       })
 
@@ -83,9 +92,9 @@ module _ (w : Days) where
       under u zero l i a o e = omega (z, f.under i a o, t.most)
       under u (suc k) l i a o e = t.under u (record { at = k; inside = le_of_suc-le-suc l; day = i; among = a; on = o; is = e })
 
-  pub least_of_lem : (ss : List Stretch) (m : Power) → Least ss w m.0 (foldl (λ x s. lowered s w x) m ss).0
+  pub least_of_lem : (ss : List Stretch) (m : Power) → Least ss w m.0 (foldl (λ x s. lowered s x) m ss).0
   least_of_lem [] m = record { most = omega z; met = λ h. absurd (omega z); under = λ y s. absurd (not-suc-le-zero s.inside) }
-  least_of_lem (s ∷ ss) m = least_cons s ss m.0 _ _ (lower s m) (least_of_lem ss (lowered s w m))
+  least_of_lem (s ∷ ss) m = least_cons s ss m.0 _ _ (lower s m) (least_of_lem ss (lowered s m))
 
 -- where there is no day, the least slack is the most
 pub least_none : (ss : List Stretch) (w : Days) (m : ℤ) → w.to.0 ≤ℤ w.from.0 → Least ss w m m

@@ -1,7 +1,6 @@
 -- Why each search over stretches finds what it says.
 pub mod Parts
 pub mod Order
-pub mod Walks
 pub mod FirstFree
 pub mod LastFree
 pub mod FreeSpan

@@ -1,6 +1,6 @@
 -- Stretches in order: each has a day, and an earlier one ends before a later one begins; how many begin before a day, by halves.
 use mathlib.Core.Path.{◌≡◌, subst}
-use mathlib.Core.List.{List, [], ◌∷◌}
+use mathlib.Core.List.{List, [], ◌∷◌, ◌++◌}
 use Prim.Native.Nat.{ℕ, zero, suc, ◌+◌, ◌-◌, ◌≤◌, ◌<◌}
 use native.Mathlib.Nat.{not-suc-le-zero, le_of_suc-le-suc}
 use native.Mathlib.Omega.{arith}
@@ -51,6 +51,18 @@ ordered_apart [] h j k m l = absurd (not-suc-le-zero l)
 ordered_apart (s ∷ ss) h j zero m l = absurd (not-suc-le-zero m)
 ordered_apart (s ∷ ss) h zero (suc k) m l = ordered_after s ss h k (le_of_suc-le-suc l)
 ordered_apart (s ∷ ss) h (suc j) (suc k) m l = ordered_apart ss (ordered_rest s ss h) j k (le_of_suc-le-suc m) (le_of_suc-le-suc l)
+
+-- of a list and one more at its end
+pub ordered_front : (ss : List Stretch) (s : Stretch) → Ordered (ss ++ s ∷ []) → Ordered ss
+unfolding Ordered
+ordered_front [] s o = tt
+ordered_front (u ∷ []) s o = o.0
+ordered_front (u ∷ w ∷ ss) s o = (o.0, o.1, ordered_front (w ∷ ss) s o.2)
+
+pub ordered_last : (u : Stretch) (ss : List Stretch) (s : Stretch) → Ordered (u ∷ ss ++ s ∷ []) → (u.to.0 ≤ℤ s.from.0) × (s.from.0 <ℤ s.to.0)
+unfolding Ordered
+ordered_last u [] s o = (o.1, o.2)
+ordered_last u (w ∷ ss) s o = let f = ordered_last w ss s o.2 in let a = ordered_first w (ss ++ s ∷ []) o.2 in (omega (z, o.1), f.1)
 
 -- ---- how many begin before day d
 module _ (ss : List Stretch) (d : ℤ) where

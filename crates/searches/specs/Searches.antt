@@ -1,11 +1,12 @@
 -- What the searches over stretches give, for any test of days that the stretches tell.
-use Rattle.std.specs.Prelude.{◌≡◌, Bool, true, not, List, ℕ, ◌≤◌, ◌<◌, ℤ, pos, ◌+ℤ◌, ◌-ℤ◌, length, get_or, ◌≤ℤ◌, ◌<ℤ◌}
+use Rattle.std.specs.Prelude.{◌≡◌, Bool, true, false, not, Option, None, Some, List, ℕ, ◌≤◌, ◌<◌, ℤ, pos, ◌+ℤ◌, ◌-ℤ◌, length, get_or, ◌≤ℤ◌, ◌<ℤ◌}
 use Rattle.std.proofs.Math.IntN.{pred_ℤ}
 use Rattle.std.specs.Int.Signed.{le_z, lt_z}
 use Rattle.integers.specs.Tests.{if, and, any}
 use Rattle.integers.specs.Whole.{larger, smaller}
 use Rattle.integers.specs.Hull.{Range, range}
 use Rattle.integers.specs.Ends.{Within, InEnds}
+use Rattle.plan.specs.declared.Day.{Day}
 use Rattle.plan.specs.declared.Power.{Power}
 use Rattle.plan.specs.declared.Span.{Span}
 use Rattle.plan.specs.Days.{day, day_low, day_high, day_ends, duration_high, duration_ends}
@@ -14,39 +15,52 @@ use Rattle.stretches.specs.View.{no_stretch, on_day}
 use Rattle.stretches.specs.Tells.{Ordered}
 use Rattle.searches.specs.declared.Days.{Days}
 use Rattle.searches.specs.declared.Reach.{Reach}
-use Rattle.searches.specs.declared.Part.{Part}
 
--- ---- a stretch's part: those of its days that a task can reach
+-- ---- a stretch's part: those of its days that are among a task's and that a rule hits, if any
 -- day i is one of from .. to - 1
 unfoldable pub holds : Days → ℤ → Bool
 holds w i = and (le_z w.from.0 i) (lt_z i w.to.0)
 
-abbrev pub part_of : Days → Stretch → Bool → Part
-part_of w s b =
-    record { from = day (larger s.from.0 w.from.0); to = day (smaller s.to.0 w.to.0); hit = b }
+-- the days of w that are the stretch's too
+abbrev pub shared : Days → Stretch → Days
+shared w s = record { from = day (larger s.from.0 w.from.0); to = day (smaller s.to.0 w.to.0) }
+
+-- there is one
+abbrev pub meets : Days → Stretch → Bool
+meets w s = lt_z (shared w s).from.0 (shared w s).to.0
+
+abbrev pub part_of : Days → Stretch → Bool → Option Days
+part_of w s b = if (and b (meets w s)) (Some (shared w s)) None
 
 -- barred: too little slack, and the stretch is none of the task's sure days
-abbrev pub barred_part : Reach → Stretch → Part
+abbrev pub barred_part : Reach → Stretch → Option Days
 barred_part x s = part_of x.days s (and (lt_z s.slack.0 x.bar.0) (not (holds x.sure s.from.0)))
 
 -- needed: less to spare than a height of h gives
-abbrev pub needed_part : Days → Power → Stretch → Part
+abbrev pub needed_part : Days → Power → Stretch → Option Days
 needed_part w h s = part_of w s (lt_z s.tight.0 h.0)
 
--- day i is one of the part's, and the part is hit
-unfoldable pub on_part : ℤ → Part → Bool
-on_part i p = and p.hit (and (le_z p.from.0 i) (lt_z i p.to.0))
+-- a part has a day, and its days are among w's
+pub record Among (w p : Days) : Type 0 where
+  pub first : w.from.0 ≤ℤ p.from.0
+  pub full : p.from.0 <ℤ p.to.0
+  pub last : p.to.0 ≤ℤ w.to.0
 
--- the days of the parts that are hit
-unfoldable pub hit_days : (Stretch → Part) → List Stretch → ℤ → Bool
+-- day i is one of the part's
+unfoldable pub on_part : ℤ → Option Days → Bool
+on_part i None = false
+on_part i (Some p) = holds p i
+
+-- the days of the parts
+unfoldable pub hit_days : (Stretch → Option Days) → List Stretch → ℤ → Bool
 hit_days part ss i = any (λ s. on_part i (part s)) ss
 
 -- the stretches tell the test q: the days that pass it are those
-abbrev pub Told : (Stretch → Part) → List Stretch → (ℤ → Bool) → Type 0
+abbrev pub Told : (Stretch → Option Days) → List Stretch → (ℤ → Bool) → Type 0
 Told part ss q = (i : ℤ) → q i ≡ hit_days part ss i
 
 -- WHAT A SEARCH PROMISES: P of every test of days that the stretches tell
-abbrev pub ForTests : (Stretch → Part) → List Stretch → ((ℤ → Bool) → Type 0) → Type 0
+abbrev pub ForTests : (Stretch → Option Days) → List Stretch → ((ℤ → Bool) → Type 0) → Type 0
 ForTests part ss P = (q : ℤ → Bool) → Told part ss q → P q
 
 -- of the days barred to a task, where the stretches stand in order
@@ -73,7 +87,7 @@ pub record LastFree (q : ℤ → Bool) (d b r : ℤ) : Type 0 where
   pub free : Hit q d r → ⊥
 
 -- out runs from the first to the last free value of s; its low end is above its high end where there is none
-pub record Freed (q : ℤ → Bool) (d : ℤ) (s out : Span) : Type 0 where
+pub record Freed (q : ℤ → Bool) (d : ℤ) (s out : Span Day) : Type 0 where
   pub least : s.low.0 ≤ℤ out.low.0
   pub most : out.high.0 ≤ℤ s.high.0
   pub before : (v : ℤ) → s.low.0 ≤ℤ v → v ≤ℤ s.high.0 → v <ℤ out.low.0 → Hit q d v
@@ -82,14 +96,14 @@ pub record Freed (q : ℤ → Bool) (d : ℤ) (s out : Span) : Type 0 where
   pub free_high : out.low.0 ≤ℤ out.high.0 → Hit q d out.high.0 → ⊥
 
 -- a range d days earlier: an end less a duration is an origin
-abbrev pub earlier : ℤ → Span → Span
+abbrev pub earlier : ℤ → Span Day → Span Day
 earlier d s = record { low = day (s.low.0 -ℤ d); high = day (s.high.0 -ℤ d) }
 
 -- the same of ends
-abbrev pub FreedEnds : (ℤ → Bool) → ℤ → Span → Span → Type 0
+abbrev pub FreedEnds : (ℤ → Bool) → ℤ → Span Day → Span Day → Type 0
 FreedEnds q d s out = Freed q d (earlier d s) (earlier d out)
 
-abbrev pub later : ℤ → Span → Span
+abbrev pub later : ℤ → Span Day → Span Day
 later d s = record { low = day (s.low.0 +ℤ d); high = day (s.high.0 +ℤ d) }
 
 -- ---- durations: among the days w a duration of more days than this covers day i
@@ -159,44 +173,11 @@ days_in w = range w.from.0 w.to.0
 abbrev pub Dated : Days → Type 0
 Dated w = InEnds day_ends (days_in w)
 
--- a part of such days; it may have none
-pub record Placed (p : Part) : Type 0 where
-  pub least : day_low ≤ℤ p.from.0
-  pub most : p.to.0 ≤ℤ day_high
-
 -- a number of days within its ends
 abbrev pub Short : ℤ → Type 0
 Short d = Within duration_ends d
-
--- ---- what its leaves compute
--- v, or the first day past the part if the part is hit and has days from v on
-abbrev pub past : Part → ℤ → ℤ
-past p v = if (and p.hit (and (lt_z p.from.0 p.to.0) (lt_z v p.to.0))) p.to.0 v
-
--- v, or the last value whose d days end before the part, if the part is hit and has days before v + d
-abbrev pub back : Part → ℤ → ℤ → ℤ
-back p d v = if (and p.hit (and (lt_z p.from.0 p.to.0) (lt_z p.from.0 (v +ℤ d)))) (p.from.0 -ℤ d) v
 
 -- half as many days as w has, rounded down
 pub record Half (w : Days) (h : ℤ) : Type 0 where
   pub under : (h +ℤ h) ≤ℤ (w.to.0 -ℤ w.from.0)
   pub over : (w.to.0 -ℤ w.from.0) ≤ℤ ((h +ℤ h) +ℤ pos 1)
-
--- the longest duration that misses one day of the part, if the part is hit and that is shorter
-abbrev pub shorter : Part → Days → ℤ → ℤ → ℤ
-shorter p w h r =
-    if (and p.hit (lt_z p.from.0 p.to.0))
-    (smaller r (larger h (larger (p.from.0 -ℤ w.from.0) (w.to.0 -ℤ p.to.0))))
-    r
-
--- the days of s and of the part together, where the part is hit and has days
-abbrev pub joined : Part → Days → Days
-joined p s =
-    if (and p.hit (lt_z p.from.0 p.to.0))
-    (record { from = day (smaller s.from.0 p.from.0); to = day (larger s.to.0 p.to.0) })
-    s
-
--- x, or the stretch's slack where that is lower and one of its days is among w's
-abbrev pub lowered : Stretch → Days → Power → Power
-lowered s w x =
-    if (and (lt_z (larger s.from.0 w.from.0) (smaller s.to.0 w.to.0)) (lt_z s.slack.0 x.0)) s.slack x

@@ -1,2 +1,3 @@
 -- Laws of the step over the list.
 pub mod Listed
+pub mod Narrowing

@@ -1,9 +1,13 @@
 -- A task of the list: what narrowing it gives is what the page gives, and one that no stretch can touch stays.
+use Rattle.std.specs.Prelude.{Some, None, Result, Ok, Err}
+use Rattle.std.specs.Result.{result_ok}
+use Rattle.plan.specs.Refusals.{Narrowed}
 use mathlib.Core.Path.{◌≡◌, refl, sym}
 use mathlib.Core.Bool.{true, false}
 use mathlib.Core.List.{List, [], ◌∷◌}
 use Prim.Native.Nat.{ℕ}
 use lib.Dec.{eqb}
+use lib.ListN.{take}
 use lib.IntN.{ℤ}
 use lib.Signed.{◌≤ℤ◌, lt_z}
 use Rattle.integers.specs.Tests.{and, any}
@@ -13,14 +17,12 @@ use Rattle.integers.proofs.Z.{z}
 use Rattle.integers.proofs.Tests.{clash, by_cases, false_in, and_in, or_none}
 use Rattle.integers.proofs.Lists.{any_place, each_in}
 use Rattle.plan.specs.declared.Task.{Task}
-use Rattle.plan.specs.declared.Narrowed.{Narrowed}
-use Rattle.plan.specs.declared.Narrowed.TheVariants.{Kept}
 use Rattle.plan.specs.Sets.{has}
 use Rattle.plan.specs.Tasks.{TaskFits}
 use Rattle.rules.specs.Frame.{Floor}
-use Rattle.rules.specs.Balance.{each}
+use Rattle.rules.specs.Balance.{Outcome, each}
 use Rattle.rules.specs.Balance.Outcome.{NoPlan, Plan}
-use Rattle.rules.specs.Step.{shortfall, narrowed, listed_days, at_least_step}
+use Rattle.rules.specs.Step.{narrowed, listed_days, at_least_step}
 use Rattle.rules.proofs.Live.{live_fits}
 use Rattle.rules.proofs.Untouched.{Untouched, untouched_unbarred, narrowed_untouched, narrowed_away}
 use Rattle.stretches.specs.declared.Stretch.{Stretch}
@@ -28,6 +30,8 @@ use Rattle.stretches.specs.View.{no_stretch, on_day}
 use Rattle.stretches.specs.Asks.{bar_of, lift_of}
 use Rattle.stretches.specs.Tells.{slack_on, tight_on, Tells}
 use Rattle.stretches.specs.Tells as tells
+use Rattle.profile.specs.declared.Shortfall.{Shortfall}
+use Rattle.profile.specs.Promise.{Answered}
 use Rattle.profile.proofs.Calm.{calm_unneeded, calm_unbarred, calm_unlifted}
 use Rattle.narrow.specs.Ready.{ByPage}
 use Rattle.step.specs.declared.Least.{Least}
@@ -71,7 +75,7 @@ module _ (r : ℕ) (limit : Floor) (ss : List Stretch) (ts : List Task) (fit : E
         (λ v. dull_untouched t v r limit ts i need))
         (λ e. told_quiet i ((told.tells k).quiet i e))
 
-    pub calm_kept : asks_more r t l ≡ false → narrowed r limit ts (listed_days ts) t ≡ Kept t
+    pub calm_kept : asks_more r t l ≡ false → narrowed r limit ts (listed_days ts) t ≡ Ok t
     unfolding asks_more can_be_barred
     calm_kept e =
         let live = live_fits 64 t fits in
@@ -84,25 +88,41 @@ module _ (r : ℕ) (limit : Floor) (ss : List Stretch) (ts : List Task) (fit : E
         (λ h. narrowed_away r t h limit ts (listed_days ts) live)
 
 -- where every task stays, so does the list
-each_kept : (f : Task → Narrowed) (ts : List Task) → ((t : Task) → In t ts → f t ≡ Kept t) → each f ts ≡ Plan ts
+each_kept : (f : Task → Narrowed) (ts : List Task) → ((t : Task) → In t ts → f t ≡ Ok t) → each f ts ≡ Plan ts
 unfolding each
 each_kept f [] h = refl
 each_kept f (t ∷ ts) h = rw (h t head, each_kept f ts (λ u k. h u (tail k)))
 
 -- no stretch is left: no rule touches any task
-pub none_left : (r : ℕ) (limit : Floor) (ts : List Task) → Each (TaskFits 64) ts → ((t : Task) → In t ts → Tells r limit ts t [])
+none_left : (r : ℕ) (limit : Floor) (ts : List Task) → Each (TaskFits 64) ts → ((t : Task) → In t ts → Tells r limit ts t [])
     → each (narrowed r limit ts (listed_days ts)) ts ≡ Plan ts
 unfolding any
 none_left r limit ts fit tells =
     each_kept (narrowed r limit ts (listed_days ts)) ts λ t k.
     narrowed_untouched r limit ts (listed_days ts) t (λ i. told_quiet r limit [] ts fit k i ((tells t k).quiet i refl)) (live_fits 64 t (each_in fit k))
 
--- with no day short, the step takes each task by itself
-pub step_enough : (r : ℕ) (limit : Floor) (ts : List Task) → any (shortfall r limit ts) (listed_days ts) ≡ false
-    → at_least_step r limit ts ≡ each (narrowed r limit ts (listed_days ts)) ts
-unfolding at_least_step
-step_enough r limit ts e = rw e
+-- ---- what the profile answered
+module _ (r : ℕ) (limit : Floor) (ts : List Task) (ss : List Stretch) where
+  -- a shortfall is no plan
+  pub answered_short : (o : Result ℕ Shortfall) → Answered r limit ts ss o → None ≡ result_ok o → NoPlan ≡ at_least_step r limit ts
+  unfolding at_least_step
+  answered_short (Ok n) a e = absurd (cc)
+  answered_short (Err s) a e = rw (sym a.1.short_is)
 
-pub step_short : (r : ℕ) (limit : Floor) (ts : List Task) → any (shortfall r limit ts) (listed_days ts) ≡ true → at_least_step r limit ts ≡ NoPlan
-unfolding at_least_step
-step_short r limit ts e = rw e
+  -- else they are so many
+  pub answered_ok : (o : Result ℕ Shortfall) → Answered r limit ts ss o → (n : ℕ) → Some n ≡ result_ok o → Answered r limit ts ss (Ok n)
+  answered_ok (Ok m) a n e = let same : m ≡ n = cc in rw same at a
+  answered_ok (Err s) a n e = absurd (cc)
+
+  module _ (n : ℕ) (a : Answered r limit ts ss (Ok n)) where
+    pub answered_tells : TellsAll r limit ts (take n ss)
+    answered_tells = record { tells = a.1.tells; enough = sym a.1.short_is }
+
+    -- with no day short, the step takes each task by itself
+    pub answered_each : (o : Outcome) → o ≡ each (narrowed r limit ts (listed_days ts)) ts → o ≡ at_least_step r limit ts
+    unfolding at_least_step
+    answered_each o e = rw (sym a.1.short_is) e
+
+  -- no stretch is left: no rule touches any task
+  pub answered_calm : Each (TaskFits 64) ts → Answered r limit ts ss (Ok 0) → Plan ts ≡ at_least_step r limit ts
+  answered_calm fit a = answered_each 0 a (Plan ts) (sym (none_left r limit ts fit (λ t k. a.1.tells k)))

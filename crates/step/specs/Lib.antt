@@ -1,3 +1,4 @@
--- What the stretches tell a step, and which tasks they can touch.
+-- What the stretches tell a step, which tasks they can touch, and what is left of what a step is lent.
 pub mod Told
 pub mod Least
+pub mod Kept

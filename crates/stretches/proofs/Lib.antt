@@ -1,3 +1,3 @@
--- Laws of the view, and of what a day's slack says of a task.
+-- Laws of the days of a stretch, and of what a day's slack says of a task.
 pub mod View
 pub mod Asks

@@ -6,12 +6,12 @@ use Prim.Native.Nat.{ℕ, suc, ◌+◌, ◌-◌, ◌*◌, ◌/◌, ◌%◌, ◌�
 use native.Mathlib.Omega.{arith}
 use native.Mathlib.Nat.{add-zero}
 use native.Mathlib.Numerals.{add-one}
-use lib.IntN.{ℤ, pos, negsuc, ◌-ℤ◌, nat_abs}
-use lib.Signed.{lt_z, mag, non_neg}
-use lib.Dec.{T, ltb}
+use lib.IntN.{ℤ, pos, negsuc, nat_abs}
+use lib.Signed.{lt_z}
+use lib.Dec.{ltb}
 use borrow.Author.Tests.{lt-ltb, le-ltb}
 use Rattle.integers.specs.Hull.{Range}
-use Rattle.integers.proofs.Z.{z, -z}
+use Rattle.integers.proofs.Z.{z}
 use lib.ListN.{length, get_or, drop, length-append, drop_of_length-le}
 use lib.Seq.{sets, length-sets, drop-cons}
 use Rattle.plan.specs.declared.Task.{Task}
@@ -65,25 +65,15 @@ module _ {out : List ℕ} {at most n : ℕ} where
       put_wider (omega arith) (put_is (ap (λ (x : ℕ). last_digits (most - 1) (n / 10) ++ (x ∷ [])) e ∙ sym (digits_more most n h (le-ltb n 10 g))) (put_then p q))
 
 -- ---- signed numbers
--- what the code works out of a number below 0, and of one that is not, and their texts
-pub record Below (x : ℤ) : Type 0 where
-  pub size : negsuc 0 -ℤ x ≡ pos (mag x)
-  pub text : signed x ≡ minus ++ digits (mag x + 1)
-
-pub below : (x : ℤ) → lt_z x (pos 0) ≡ true → Below x
+pub signed_below : (x : ℤ) → lt_z x (pos 0) ≡ true → signed x ≡ minus ++ digits (nat_abs x)
 unfolding signed
-below (pos n) t = absurd (omega (z, t))
-below (negsuc n) t = record { size = omega (z, -z (negsuc 0) (negsuc n)); text = refl }
+signed_below (pos n) t = absurd (omega (z, t))
+signed_below (negsuc n) t = rw add-one
 
-pub record NotBelow (x : ℤ) : Type 0 where
-  pub sign : T (non_neg x)
-  pub size : nat_abs x ≡ mag x
-  pub text : signed x ≡ digits (nat_abs x)
-
-pub not_below : (x : ℤ) → lt_z x (pos 0) ≡ false → NotBelow x
+pub signed_not_below : (x : ℤ) → lt_z x (pos 0) ≡ false → signed x ≡ digits (nat_abs x)
 unfolding signed
-not_below (pos n) t = record { sign = tt; size = refl; text = refl }
-not_below (negsuc n) t = absurd (omega (z, t))
+signed_not_below (pos n) t = refl
+signed_not_below (negsuc n) t = absurd (omega (z, t))
 
 pub put_range : (s : Range) {out middle later : List ℕ} {at past end : ℕ} {x y : ℤ} → Put out at (space ++ signed x) (1 + most_signed) middle past → Put middle past (space ++ signed y) (1 + most_signed) later end → x ≡ s.low → y ≡ s.high → Put out at (range_text s) most_range later end
 unfolding range_text

@@ -1,14 +1,12 @@
-// The planning program's lines, put into what is lent: each function answers the place past its text.
+// The planning program's lines, put into what is lent: each function answers the place past its text. They are put by hand, and not by `write!`: no heap
+// and fixed memory, and each byte is proved.
 #![tactic(auto)]
 
 ghost use Rattle.std.specs.Prelude.{◌≡◌, [], ◌∷◌, ◌++◌, ◌+◌, ◌*◌, ◌≤◌, ◌<◌, length};
-ghost use Rattle.plan.specs.Days.{days_of};
-ghost use Rattle.plan.specs.Powers.{powers_of};
-ghost use Rattle.rows.specs.View.{tasks_of};
+ghost use Rattle.integers.specs.Hull.{range};
 ghost use Rattle.text.specs.Text.{digit_of, last_digits, signed, space, range_text, task_line, task_lines, settled_line, refused_line, Put, most_signed, most_range, most_task_line, most_settled_line, most_refused_line};
 
-use plan::{PowerSpan, Refusal, Span, Task};
-use rows::TaskRow;
+use plan::{Number, Refusal, Span, Task};
 
 // Every number of 64 bits has at most so many.
 const MOST_DIGITS: usize = 20;
@@ -47,11 +45,8 @@ fn put_signed(out: &mut [u8], at: usize, x: i64) -> usize
     requires { at + most_signed ≤ length out.old }
     ensures { Put out.old at (signed x) most_signed out.new result }
 {
-    if x < 0 {
-        let past = put_byte(out, at, b'-');
-        return put_digits(out, past, MOST_DIGITS, (-1 - x) as u64 + 1);
-    }
-    put_digits(out, at, MOST_DIGITS, x as u64)
+    let past = if x < 0 { put_byte(out, at, b'-') } else { at };
+    put_digits(out, past, MOST_DIGITS, x.unsigned_abs())
 }
 
 fn put_spaced(out: &mut [u8], at: usize, x: i64) -> usize
@@ -63,20 +58,12 @@ fn put_spaced(out: &mut [u8], at: usize, x: i64) -> usize
 }
 
 // Low, then high.
-fn put_days(out: &mut [u8], at: usize, s: Span) -> usize
+fn put_span<T: Number>(out: &mut [u8], at: usize, s: Span<T>) -> usize
     requires { at + most_range ≤ length out.old }
-    ensures { Put out.old at (range_text (days_of s)) most_range out.new result }
+    ensures { Put out.old at (range_text (range (T.number s.low) (T.number s.high))) most_range out.new result }
 {
-    let low = put_spaced(out, at, s.low.0);
-    put_spaced(out, low, s.high.0)
-}
-
-fn put_powers(out: &mut [u8], at: usize, s: PowerSpan) -> usize
-    requires { at + most_range ≤ length out.old }
-    ensures { Put out.old at (range_text (powers_of s)) most_range out.new result }
-{
-    let low = put_spaced(out, at, s.low.0);
-    put_spaced(out, low, s.high.0)
+    let low = put_spaced(out, at, s.low.number());
+    put_spaced(out, low, s.high.number())
 }
 
 fn put_task(out: &mut [u8], at: usize, i: usize, t: Task) -> usize
@@ -86,23 +73,21 @@ fn put_task(out: &mut [u8], at: usize, i: usize, t: Task) -> usize
     let place = put_digits(out, at, MOST_DIGITS, i as u64);
     let gap = put_byte(out, place, b' ');
     let set = put_digits(out, gap, MOST_DIGITS, t.set);
-    let origin = put_days(out, set, t.origin);
-    let duration = put_days(out, origin, t.duration);
-    let end = put_days(out, duration, t.end);
-    let height = put_powers(out, end, t.height);
+    let origin = put_span(out, set, t.origin);
+    let duration = put_span(out, origin, t.duration);
+    let end = put_span(out, duration, t.end);
+    let height = put_span(out, end, t.height);
     put_byte(out, height, b'\n')
 }
 
 // A line for each task, one after another from a place on.
-pub fn put_tasks(out: &mut [u8], from: usize, s: &[TaskRow]) -> usize
-    requires { from + length s.now * most_task_line ≤ length out.old }
-    ensures { Put out.old from (task_lines 0 (tasks_of s.now)) (length s.now * most_task_line) out.new result }
+pub fn put_tasks(out: &mut [u8], from: usize, tasks: &[Task]) -> usize
+    requires { from + length tasks.now * most_task_line ≤ length out.old }
+    ensures { Put out.old from (task_lines 0 tasks.now) (length tasks.now * most_task_line) out.new result }
 {
     let mut at = from;
-    let mut i: usize = 0;
-    while i < s.len() {
-        at = put_task(out, at, i, rows::task_at(s, i));
-        i += 1;
+    for (i, t) in tasks.iter().enumerate() {
+        at = put_task(out, at, i, *t);
     }
     at
 }

@@ -2,17 +2,12 @@
 // program prints. The files, and the second program's answers to them, are made by tools/vectors.
 #![tactic(auto)]
 
-ghost use Rattle.std.specs.Prelude.{◌≡◌, ◌≤◌, ◌<◌, length};
+ghost use Rattle.std.specs.Prelude.{◌≤◌, length};
 ghost use Rattle.std.specs.Io.{ReadsAtMost};
 
 use report::MOST_READ;
 use std::io;
 use std::io::Read;
-
-// A byte has so many values, a length in front of a file so many.
-const BYTE: u64 = 1 << 8;
-
-const LENGTHS: u64 = 1 << 32;
 
 pub const LENGTH_SIZE: usize = 4;
 
@@ -21,21 +16,14 @@ const FILE_ROOM: usize = 1 << 16;
 
 const TEXT_ROOM: usize = 1 << 16;
 
-fn wide(x: u8) -> u64
-    ensures value { result ≡ x }
-    ensures upper_bound { result < 256 }
-{
-    x as u64
-}
-
-// The next file's length, or more than any where the stream ends.
-fn next_length(from: &mut impl Read) -> io::Result<u64> {
-    let mut b = [0u8; LENGTH_SIZE];
-    let n = input::read_full(from, &mut b)?;
+// The next file's length, or none where the stream ends.
+fn next_length(from: &mut impl Read) -> io::Result<Option<usize>> {
+    let mut bytes = [0; LENGTH_SIZE];
+    let n = input::read_full(from, &mut bytes)?;
     if n < LENGTH_SIZE {
-        return Ok(LENGTHS);
+        return Ok(None);
     }
-    Ok(wide(b[0]) + BYTE * (wide(b[1]) + BYTE * (wide(b[2]) + BYTE * wide(b[3]))))
+    Ok(Some(u32::from_le_bytes(bytes) as usize))
 }
 
 // So many bytes into the start of what is lent, or those that are left.
@@ -48,13 +36,15 @@ fn read_file(from: &mut impl Read, n: usize, file: &mut [u8]) -> io::Result<usiz
 
 // The next file read, settled and told: whether there was one. No file of a stream is longer than the planning program reads.
 fn answer_next(rt: &impl Print, from: &mut impl Read) -> io::Result<bool> {
-    let length = next_length(from)?;
-    if length > MOST_READ as u64 {
+    let Some(length) = next_length(from)? else {
+        return Ok(false);
+    };
+    if MOST_READ < length {
         return Ok(false);
     }
-    let mut file = [0u8; FILE_ROOM];
-    let n = read_file(from, length as usize, &mut file)?;
-    let mut out = [0u8; TEXT_ROOM];
+    let mut file = [0; FILE_ROOM];
+    let n = read_file(from, length, &mut file)?;
+    let mut out = [0; TEXT_ROOM];
     let r = report::report(&file[..n], &mut out);
     rt.write_all(&out[..r])?;
     Ok(true)

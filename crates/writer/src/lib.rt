@@ -1,138 +1,171 @@
 // A plan's bytes, stored record after record, and whether a buffer has room for them.
 #![tactic(auto)]
 
-ghost use Rattle.std.specs.Prelude.{◌≡◌, ◌+◌, ◌≤◌, length};
+ghost use Rattle.std.specs.Prelude.{◌≡◌, refl, ℕ, ◌+◌, ◌*◌, ◌≤◌, length};
 ghost use Rattle.std.proofs.lemmas.List.Edits.{sets};
 ghost use Rattle.integers.specs.Lists.{Each};
-ghost use Rattle.plan.specs.declared.Checked.TheVariants.{Accepted};
+ghost use Rattle.plan.specs.Refusals.{accepted};
 ghost use Rattle.plan.specs.Tasks.{most_resources, most_bands, most_tasks};
+ghost use Rattle.rules.specs.Frame.{framed};
 ghost use Rattle.rules.specs.Calls.{check};
-ghost use Rattle.rows.specs.View.{tasks_of, resources_of, bands_of, frame_of};
 ghost use Rattle.format.specs.declared.Mark.TheVariants.{PL, RS, LB, TK};
-ghost use Rattle.format.specs.Format.{mark, mark_size, resource_mark, size, record_bytes, header_numbers, resource_numbers, band_numbers, task_numbers, resources, bands, tasks, bands_from, tasks_from, file_length};
-ghost use Rattle.format.specs.Writing.{records_bytes, written, laid, ResourceSmall, BandSmall, TaskSmall, room_for};
+ghost use Rattle.format.specs.Format.{Layout, mark, mark_size, size, record_bytes, header_numbers, resources, bands, tasks, file_length};
+ghost use Rattle.format.specs.Writing.{records_bytes, Even, written, laid, Limited, BandSmall, TaskSmall, room_for};
+ghost use Rattle.format.proofs.Records.{length_one};
+ghost use Rattle.format.proofs.Layouts.{resources_lawful, bands_lawful, tasks_lawful};
 
-use format::fields::{put_days, put_one, put_powers, put_signed, put_two};
+use format::fields::{put_one, put_signed, put_span, put_two};
 use format::{Header, Mark, table};
-use plan::{Band, Checked, Refusal, Resource, Sense, Task};
-use rows::{BandRow, ResourceRow, TaskRow};
+use plan::{Band, Refusal, Resource, Sense, Task};
 
 // 10: "output buffer shorter than the file", of so many resources, bands and tasks. Every call that writes a file asks here.
-pub fn room_for(resources: usize, bands: usize, tasks: usize, out: usize) -> Checked
+#[tactic(auto, unfolding(format::specs::Writing::room_for))]
+pub fn room_for(resources: usize, bands: usize, tasks: usize, out: usize) -> Result<(), Refusal>
     requires { (resources ≤ most_resources) × (bands ≤ most_bands) × (tasks ≤ most_tasks) }
     ensures { result ≡ room_for (file_length resources bands tasks) out }
 {
     if out < table::file_length(resources, bands, tasks) {
-        return Checked::Refused(Refusal::BufferShort);
+        return Err(Refusal::BufferShort);
     }
-    Checked::Accepted
+    Ok(())
 }
 
-fn put_mark(b: &mut [u8], at: usize, k: Mark)
-    requires { at + mark_size ≤ length b.old }
-    ensures { b.new ≡ sets b.old at (mark k) }
+#[tactic(auto, using(format::proofs::Stores::mid_stored, format::proofs::Stores::length_mark))]
+fn put_mark(out: &mut [u8], at: usize, k: Mark)
+    requires { at + mark_size ≤ length out.old }
+    ensures { out.new ≡ sets out.old at (mark k) }
 {
-    b[at] = table::first_byte(k);
-    b[at + 1] = table::second_byte(k);
+    out[at..at + table::MARK_SIZE].copy_from_slice(&k.bytes());
 }
 
-fn put_header(b: &mut [u8], h: Header)
-    requires { (size PL ≤ length b.old) × (h.resources ≤ most_resources) × (h.tasks ≤ most_tasks) }
-    ensures { b.new ≡ sets b.old 0 (record_bytes PL (header_numbers h)) }
+#[tactic(auto, using(format::proofs::Stores::record_stored), unfolding(format::specs::Format::header_numbers))]
+fn put_header(out: &mut [u8], h: Header)
+    requires { (size PL ≤ length out.old) × (h.resources ≤ most_resources) × (h.tasks ≤ most_tasks) }
+    ensures { out.new ≡ sets out.old 0 (record_bytes PL (header_numbers h)) }
 {
-    put_mark(b, 0, Mark::PL);
-    put_one(b, table::SENSE, h.sense as u32);
-    put_one(b, table::RESOURCE_COUNT, h.resources as u32);
-    put_two(b, table::TASK_COUNT, h.tasks as u32);
+    put_mark(out, 0, Mark::PL);
+    put_one(out, table::SENSE, u32::from(h.sense));
+    put_one(out, table::RESOURCE_COUNT, h.resources as u32);
+    put_two(out, table::TASK_COUNT, h.tasks as u32);
 }
 
-fn put_resource(b: &mut [u8], at: usize, q: Resource)
-    requires { (at + size RS ≤ length b.old) × ResourceSmall q }
-    ensures { b.new ≡ sets b.old at (record_bytes (resource_mark q) (resource_numbers q)) }
-{
-    let kind = q.kind;
-    put_mark(b, at, table::kind_mark(kind));
-    put_signed(b, at + table::IDENTIFIER, q.id as i64);
-    put_signed(b, at + table::LIMIT, q.limit.0);
+// What stands in a file record after record: how it is laid out, what its fields hold of it, and how many bytes each takes.
+trait Record: Copy {
+    ghost layout: { Layout Self };
+
+    ghost Small: { Self → Type 0 };
+
+    ghost SIZE: { ℕ };
+
+    const SIZE: usize;
+
+    fn put(self, out: &mut [u8], at: usize)
+        requires { (at + SIZE ≤ length out.old) × Small self }
+        ensures { out.new ≡ sets out.old at (record_bytes (layout.mark self) (layout.numbers self)) };
+
+    ghost sized: { SIZE ≡ size layout.due };
+
+    ghost even: { Even layout };
 }
 
-fn put_band(b: &mut [u8], at: usize, x: Band)
-    requires { (at + size LB ≤ length b.old) × BandSmall x }
-    ensures { b.new ≡ sets b.old at (record_bytes LB (band_numbers x)) }
-{
-    put_mark(b, at, Mark::LB);
-    put_two(b, at + table::BAND_PLACE, x.place as u32);
-    put_signed(b, at + table::BAND_FROM, x.from.0);
-    put_signed(b, at + table::BAND_LIMIT, x.limit.0);
-}
+impl Record for Resource {
+    ghost layout = { resources };
 
-fn put_task(b: &mut [u8], at: usize, t: Task)
-    requires { (at + size TK ≤ length b.old) × TaskSmall t }
-    ensures { b.new ≡ sets b.old at (record_bytes TK (task_numbers t)) }
-{
-    put_mark(b, at, Mark::TK);
-    put_two(b, at + table::SET, t.set as u32);
-    put_days(b, at + table::ORIGIN, t.origin);
-    put_days(b, at + table::DURATION, t.duration);
-    put_days(b, at + table::END, t.end);
-    put_powers(b, at + table::HEIGHT, t.height);
-}
+    ghost Small = { Limited };
 
-// All RS, or RH in place of RS, one after another behind the PL record.
-fn put_resources(b: &mut [u8], q: &[ResourceRow])
-    requires { (bands_from (length q.now) ≤ length b.old) × Each ResourceSmall (resources_of q.now) }
-    ensures { b.new ≡ sets b.old (size PL) (records_bytes resources (resources_of q.now)) }
-{
-    let mut at = table::PL_SIZE;
-    let mut i = 0;
-    while i < q.len() {
-        put_resource(b, at, rows::resource_at(q, i));
-        at += table::RS_SIZE;
-        i += 1;
+    ghost SIZE = { size RS };
+
+    const SIZE: usize = table::RS_SIZE;
+
+    #[tactic(auto, using(crate::proofs::Resources::either_stored), unfolding(format::specs::Format::resource_numbers))]
+    fn put(self, out: &mut [u8], at: usize) {
+        put_mark(out, at, Mark::from(self.kind));
+        put_signed(out, at + table::IDENTIFIER, i64::from(self.id));
+        put_signed(out, at + table::LIMIT, self.limit.0);
     }
+
+    ghost sized = { refl };
+
+    ghost even = { length_one resources_lawful };
 }
 
-// All LB, behind so many resources.
-fn put_bands(b: &mut [u8], n: usize, s: &[BandRow])
-    requires { (tasks_from n (length s.now) ≤ length b.old) × Each BandSmall (bands_of s.now) }
-    ensures { b.new ≡ sets b.old (bands_from n) (records_bytes bands (bands_of s.now)) }
-{
-    let mut at = table::bands_from(n);
-    let mut i = 0;
-    while i < s.len() {
-        put_band(b, at, rows::band_at(s, i));
-        at += table::LB_SIZE;
-        i += 1;
+impl Record for Band {
+    ghost layout = { bands };
+
+    ghost Small = { BandSmall };
+
+    ghost SIZE = { size LB };
+
+    const SIZE: usize = table::LB_SIZE;
+
+    #[tactic(auto, using(format::proofs::Stores::record_stored), unfolding(format::specs::Format::band_numbers))]
+    fn put(self, out: &mut [u8], at: usize) {
+        put_mark(out, at, Mark::LB);
+        put_two(out, at + table::BAND_PLACE, self.place as u32);
+        put_signed(out, at + table::BAND_FROM, self.from.0);
+        put_signed(out, at + table::BAND_LIMIT, self.limit.0);
     }
+
+    ghost sized = { refl };
+
+    ghost even = { length_one bands_lawful };
 }
 
-// All TK, behind so many resources and bands.
-fn put_tasks(b: &mut [u8], n: usize, k: usize, s: &[TaskRow])
-    requires { (file_length n k (length s.now) ≤ length b.old) × Each TaskSmall (tasks_of s.now) }
-    ensures { b.new ≡ sets b.old (tasks_from n k) (records_bytes (tasks n) (tasks_of s.now)) }
+impl Record for Task {
+    ghost layout = { tasks 0 };
+
+    ghost Small = { TaskSmall };
+
+    ghost SIZE = { size TK };
+
+    const SIZE: usize = table::TK_SIZE;
+
+    #[tactic(auto, using(format::proofs::Stores::record_stored), unfolding(format::specs::Format::task_numbers))]
+    fn put(self, out: &mut [u8], at: usize) {
+        put_mark(out, at, Mark::TK);
+        put_two(out, at + table::SET, self.set as u32);
+        put_span(out, at + table::ORIGIN, self.origin);
+        put_span(out, at + table::DURATION, self.duration);
+        put_span(out, at + table::END, self.end);
+        put_span(out, at + table::HEIGHT, self.height);
+    }
+
+    ghost sized = { refl };
+
+    ghost even = { length_one (tasks_lawful 0) };
+}
+
+// The records of a list, one after another from a place on.
+fn put_records<R: Record>(out: &mut [u8], from: usize, list: &[R])
+    requires { (from + length list.now * R.SIZE ≤ length out.old) × Each R.Small list.now }
+    ensures { out.new ≡ sets out.old from (records_bytes R.layout list.now) }
 {
-    let mut at = table::tasks_from(n, k);
-    let mut i = 0;
-    while i < s.len() {
-        put_task(b, at, rows::task_at(s, i));
-        at += table::TK_SIZE;
-        i += 1;
+    let mut at = from;
+    for x in list {
+        x.put(out, at);
+        at += R::SIZE;
     }
 }
 
 // The bytes of a plan that passes the checks, into a buffer that has room for them.
-pub fn put_plan(sense: Sense, q: &[ResourceRow], b: &[BandRow], s: &[TaskRow], out: &mut [u8])
-    requires accepted { check (frame_of sense q.now b.now) (tasks_of s.now) ≡ Accepted }
-    requires room { room_for (file_length (length q.now) (length b.now) (length s.now)) (length out.old) ≡ Accepted }
-    ensures { out.new ≡ laid (written (frame_of sense q.now b.now) (tasks_of s.now)) out.old }
+pub fn put_plan(
+    sense: Sense,
+    resources: &[Resource],
+    bands: &[Band],
+    tasks: &[Task],
+    out: &mut [u8],
+)
+    requires accepted { check (framed sense resources.now bands.now) tasks.now ≡ accepted }
+    requires room { room_for (file_length (length resources.now) (length bands.now) (length tasks.now)) (length out.old) ≡ accepted }
+    ensures { out.new ≡ laid (written (framed sense resources.now bands.now) tasks.now) out.old }
 {
     let header = Header {
         sense: table::sense_number(sense),
-        resources: q.len(),
-        tasks: s.len(),
+        resources: resources.len(),
+        tasks: tasks.len(),
     };
     put_header(out, header);
-    put_resources(out, q);
-    put_bands(out, q.len(), b);
-    put_tasks(out, q.len(), b.len(), s);
+    put_records(out, table::PL_SIZE, resources);
+    put_records(out, table::bands_from(resources.len()), bands);
+    put_records(out, table::tasks_from(resources.len(), bands.len()), tasks);
 }

@@ -1,17 +1,6 @@
--- Six sums and differences, each cut from the ranges as they entered.
-use Rattle.rules.specs.Balance.{cuts}
+-- The ends of days and of durations are far from those of 64 bits.
+use Rattle.integers.proofs.Z.{z, -z}
 use Rattle.balance.proofs.cut_task.Goals as goal
 
-pub returns : goal.returns
-unfolding cuts
-returns c = simp (
-  c.cut_to-origin.ensures,
-  c.cut_to-duration.ensures,
-  c.cut_to-end.ensures,
-  c.minus.ensures,
-  c.minus-2.ensures,
-  c.minus-3.ensures,
-  c.minus-4.ensures,
-  c.plus.ensures,
-  c.plus-2.ensures,
-)
+pub sub-requires : goal.sub-requires
+sub-requires c = let t = c.args.t in omega (z, -z t.end.low.0 t.duration.high.0)

@@ -1,32 +1,15 @@
--- A header's refusal stands; else the call on what it counts.
-use mathlib.Core.Path.{sym, ap, ◌∙◌}
-use Prim.Native.Nat.{ℕ}
-use Rattle.format.specs.declared.HeaderAnswer.{HeaderAnswer}
-use Rattle.format.specs.Reading.{plan_after, read_plan}
+-- The header counts no more than a plan may.
+use Rattle.std.proofs.Common.{sym, ◌∙◌}
 use Rattle.format.proofs.Files.{header_few}
-use Rattle.answers.specs.Files.{file_result, after_read, file_call}
 use Rattle.calls.proofs.apply_to_file.Goals as goal
 
-pub apply_counted-requires : goal.apply_counted-requires
-apply_counted-requires c = let m = c in
-    let d = m in
-    let few = header_few d.args.file.now (sym d.read_header.ensures ∙ m.in-Counts.is) in
-    (few.resources, few.tasks)
+pub asks_more-requires : goal.asks_more-requires
+asks_more-requires c = (header_few c.args.file.now (sym c.in_ok-h.ensures)).resources
 
-pub returns-in-Refused : goal.returns-in-Refused
-unfolding file_call read_plan
-returns-in-Refused c = let m = c in
-    let d = m in
-    let a = d.args in
-    let e = m.in-Refused.is in
-    ap (λ (k : ℕ). file_result k a.out.now) c.refusal_number.ensures
-    ∙ ap (λ (x : HeaderAnswer). after_read a.c a.out.now (plan_after a.file.now x)) (sym e ∙ d.read_header.ensures)
+pub apply_banded-requires : goal.apply_banded-requires
+apply_banded-requires c = let few = header_few c.args.file.now (sym c.in_ok-h.ensures) in (few.resources, few.tasks)
 
-pub returns-in-Counts : goal.returns-in-Counts
-unfolding file_call read_plan
-returns-in-Counts c = let p = c in
-    let m = p in
-    let d = m in
-    let a = d.args in
-    p.apply_counted.ensures
-    ∙ ap (λ (x : HeaderAnswer). after_read a.c a.out.now (plan_after a.file.now x)) (sym m.in-Counts.is ∙ d.read_header.ensures)
+pub apply_bare-requires : goal.apply_bare-requires
+apply_bare-requires c =
+    let few = header_few c.args.file.now (sym c.in_ok-h.ensures) in
+    ((few.resources, few.tasks), sym c.asks_more.ensures ∙ c.if-asks_more.false)

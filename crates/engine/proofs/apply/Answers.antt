@@ -1,10 +1,12 @@
 -- Worked out at least, on the plan as it is for its sense, and back.
+use Rattle.std.specs.Prelude.{Ok, Err}
 use mathlib.Core.Path.{◌≡◌, sym, ap, ◌∙◌}
-use Rattle.plan.specs.declared.Answer.{Answer}
-use Rattle.plan.specs.declared.Checked.TheVariants.{Accepted}
+use Rattle.std.proofs.Common.{rules}
+use Rattle.plan.specs.declared.Sense.TheVariants.{AtLeast}
+use Rattle.plan.specs.Refusals.{Answer, accepted}
+use Rattle.rules.specs.Frame.{framed}
 use Rattle.rules.specs.Calls.{check, call_of, result_of}
 use Rattle.rules.proofs.Calls.{call_keeps}
-use Rattle.rows.specs.View.{tasks_of, resources_of, bands_of, frame_of, at_least}
 use Rattle.negation.specs.Senses.{tasks_for, resources_for, bands_for, result_for}
 use Rattle.negation.proofs.Senses.{call_for, call_back, resources_twice, bands_twice}
 use Rattle.engine.proofs.Calls.{accepted_for, held_for}
@@ -12,57 +14,51 @@ use Rattle.engine.proofs.apply.Goals as goal
 
 pub apply_at_least-requires : goal.apply_at_least-requires
 apply_at_least-requires c =
-    let f = frame_of c.args.sense c.args.q.now c.args.b.now in
-    let ts = tasks_of c.args.s.now in
+    let f = framed c.args.sense c.args.resources.now c.args.bands.now in
     let n = c.negate_for.ensures in
-    let l = c.requires.1.lent in
     let k = c.negate_for.auto in (
-      rw k.q c.requires.0,
+      rw k.resources c.requires.0,
       record {
-        accepted = rw (n.resources, n.bands, n.tasks) (accepted_for f ts c.requires.1.accepted);
-        lent = rw (k.b, k.s, n.resources, held_for c.args.sense (resources_of c.args.q.now)) l;
+        accepted = rw (n.resources, n.bands, n.tasks) (accepted_for f c.args.tasks.now c.requires.1.accepted);
+        lent = rw (k.bands, k.tasks, n.resources, held_for c.args.sense c.args.resources.now) c.requires.1.lent;
       },
     )
 
-pub negate_for-requires-in-Done : goal.negate_for-requires-in-Done
-negate_for-requires-in-Done c =
-    let f = frame_of c.args.sense c.args.q.now c.args.b.now in
-    let ts = tasks_of c.args.s.now in
+pub returns-in_err-n-clause-answered : goal.returns-in_err-n-clause-answered
+returns-in_err-n-clause-answered c =
+    let f = framed c.args.sense c.args.resources.now c.args.bands.now in
+    let ts = c.args.tasks.now in
     let n = c.negate_for.ensures in
-    let us = tasks_of c.apply_at_least.new.s in
-    let accepted : check (at_least c.negate_for.new.q c.negate_for.new.b) (tasks_of c.negate_for.new.s) ≡ Accepted =
-    rw (n.resources, n.bands, n.tasks) (accepted_for f ts c.requires.1.accepted) in
-    let vs = tasks_of c.negate_for.new.s in
-    (call_keeps (at_least c.negate_for.new.q c.negate_for.new.b) vs c.args.c c.in-Done.n us accepted
-    (sym c.apply_at_least.ensures ∙ ap (λ (a : Answer). result_of a vs us) c.in-Done.is)).accepted
+    let a : Answer = Err c.in_err-n.field-0.0 in
+    let e : c.from_residual.result ≡ a = search rules in
+    let out : result_of a (tasks_for c.args.sense ts) ts ≡ result_for c.args.sense (call_of c.args.c f ts) =
+    (rw (n.resources, n.bands, n.tasks) at c.in_err-n.ensures.answered) ∙ call_for c.args.c f ts in
+    rw e (call_back c.args.sense a ts ts (call_of c.args.c f ts) out)
 
-pub returns-in-Refused : goal.returns-in-Refused
-returns-in-Refused c =
-    let f = frame_of c.args.sense c.args.q.now c.args.b.now in
-    let ts = tasks_of c.args.s.now in
+pub negate_for-requires-2 : goal.negate_for-requires-2
+negate_for-requires-2 c =
+    let f = framed c.args.sense c.args.resources.now c.args.bands.now in
     let n = c.negate_for.ensures in
-    let us = tasks_of c.apply_at_least.new.s in
-    let out : result_of c.apply_at_least.result (tasks_for c.args.sense ts) us ≡ result_for c.args.sense (call_of c.args.c f ts) =
-    (rw (n.resources, n.bands, n.tasks) at c.apply_at_least.ensures) ∙ call_for c.args.c f ts in
-    let back : result_of c.apply_at_least.result ts (tasks_for c.args.sense us) ≡ call_of c.args.c f ts =
-    call_back c.args.sense c.apply_at_least.result ts us (call_of c.args.c f ts) out in
-    record { result = ap (λ (a : Answer). result_of a ts (tasks_for c.args.sense us)) (sym c.in-Refused.is) ∙ back; restored = tt }
+    let g = framed AtLeast c.negate_for.new.resources c.negate_for.new.bands in
+    let vs = c.negate_for.new.tasks in
+    let a : check g vs ≡ accepted = rw (n.resources, n.bands, n.tasks) (accepted_for f c.args.tasks.now c.requires.1.accepted) in
+    (call_keeps g vs c.args.c c.in_ok-n.n c.apply_at_least.new.tasks a (sym c.in_ok-n.ensures.answered)).accepted
 
-pub returns-in-Done : goal.returns-in-Done
-returns-in-Done c =
-    let f = frame_of c.args.sense c.args.q.now c.args.b.now in
-    let ts = tasks_of c.args.s.now in
+pub returns-clause-answered : goal.returns-clause-answered
+returns-clause-answered c =
+    let f = framed c.args.sense c.args.resources.now c.args.bands.now in
+    let ts = c.args.tasks.now in
+    let us = c.apply_at_least.new.tasks in
     let n = c.negate_for.ensures in
-    let us = tasks_of c.apply_at_least.new.s in
-    let out : result_of c.apply_at_least.result (tasks_for c.args.sense ts) us ≡ result_for c.args.sense (call_of c.args.c f ts) =
-    (rw (n.resources, n.bands, n.tasks) at c.apply_at_least.ensures) ∙ call_for c.args.c f ts in
-    let back : result_of c.apply_at_least.result ts (tasks_for c.args.sense us) ≡ call_of c.args.c f ts =
-    call_back c.args.sense c.apply_at_least.result ts us (call_of c.args.c f ts) out in
-    let off = c.negate_for-in-Done.ensures in
-    record {
-      result = rw off.tasks (ap (λ (a : Answer). result_of a ts (tasks_for c.args.sense us)) (sym c.in-Done.is) ∙ back);
-      restored = (
-        off.resources ∙ ap (resources_for c.args.sense) n.resources ∙ resources_twice c.args.sense (resources_of c.args.q.now),
-        off.bands ∙ ap (bands_for c.args.sense) n.bands ∙ bands_twice c.args.sense (bands_of c.args.b.now),
-      );
-    }
+    let a : Answer = Ok c.in_ok-n.n in
+    let out : result_of a (tasks_for c.args.sense ts) us ≡ result_for c.args.sense (call_of c.args.c f ts) =
+    (rw (n.resources, n.bands, n.tasks) at c.in_ok-n.ensures.answered) ∙ call_for c.args.c f ts in
+    rw c.negate_for-2.ensures.tasks (call_back c.args.sense a ts us (call_of c.args.c f ts) out)
+
+pub returns-clause-restored : goal.returns-clause-restored
+returns-clause-restored c =
+    let n = c.negate_for.ensures in
+    let off = c.negate_for-2.ensures in (
+      off.resources ∙ ap (resources_for c.args.sense) n.resources ∙ resources_twice c.args.sense c.args.resources.now,
+      off.bands ∙ ap (bands_for c.args.sense) n.bands ∙ bands_twice c.args.sense c.args.bands.now,
+    )

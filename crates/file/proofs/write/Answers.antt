@@ -1,38 +1,41 @@
 -- The checks, the room, then the file.
-use native.Mathlib.Omega.{arith}
 use mathlib.Core.Path.{sym, ◌∙◌}
+use Rattle.std.proofs.lemmas.Result.{err_from_is_err_and}
+use Rattle.rules.specs.Frame.{framed}
 use Rattle.rules.proofs.Checks.{accepts}
-use Rattle.rows.specs.View.{tasks_of, frame_of}
-use Rattle.rows.proofs.View.{length_tasks, length_resources, length_bands}
 use Rattle.format.specs.Writing.{write_call}
-use Rattle.format.proofs.Files.{rows_written}
+use Rattle.format.proofs.Files.{length_written}
 use Rattle.file.proofs.write.Goals as goal
 
-pub room_for-room-requires : goal.room_for-room-requires
-room_for-room-requires c =
+pub room_for-requires : goal.room_for-requires
+room_for-requires c =
     let a = c.args in
-    let ok = sym (c.check-checked.ensures a.sense) ∙ c.in-Accepted.is in
-    let plan = accepts (frame_of a.sense a.q.now a.b.now) (tasks_of a.s.now) ok in (
-      omega (arith, plan.most, length_resources a.q.now),
-      omega (arith, plan.few_bands, length_bands a.b.now),
-      omega (arith, plan.few, length_tasks a.s.now),
+    let plan = accepts (framed a.sense a.resources.now a.bands.now) a.tasks.now (sym (c.check.ensures a.sense) ∙ c.in_ok-check.was) in
+    (plan.most, plan.few_bands, plan.few)
+
+pub returns-in_err-room_for : goal.returns-in_err-room_for
+unfolding write_call
+returns-in_err-room_for c =
+    let a = c.args in
+    let p = err_from_is_err_and c.from_residual-in_err-room_for.result c.from_residual-in_err-room_for.ensures.1 in
+    rw (
+      p.1,
+      p.2,
+      sym (c.check.ensures a.sense) ∙ c.in_ok-check.was,
+      length_written (framed a.sense a.resources.now a.bands.now) a.tasks.now,
+      sym c.room_for.ensures ∙ c.in_err-room_for.was,
     )
 
-pub returns-in-Refused : goal.returns-in-Refused
+pub returns : goal.returns
 unfolding write_call
-returns-in-Refused c = rw (sym (c.check-checked.ensures c.args.sense) ∙ c.in-Refused.is)
-
-pub returns-in-Refused-room : goal.returns-in-Refused-room
-unfolding write_call
-returns-in-Refused-room c =
+returns c =
     let a = c.args in
-    let ok = sym (c.check-checked.ensures a.sense) ∙ c.in-Accepted.is in
-    rw (ok, rows_written a.sense a.q.now a.b.now a.s.now, sym c.room_for-room.ensures ∙ c.in-Refused-room.is)
-
-pub returns-in-Accepted-room : goal.returns-in-Accepted-room
-unfolding write_call
-returns-in-Accepted-room c =
-    let a = c.args in
-    let ok = sym (c.check-checked.ensures a.sense) ∙ c.in-Accepted.is in
-    let long = rows_written a.sense a.q.now a.b.now a.s.now in
-    rw (c.put_plan.ensures, c.file_length.ensures.counted, ok, long, sym c.room_for-room.ensures ∙ c.in-Accepted-room.is) (rw long)
+    let long = length_written (framed a.sense a.resources.now a.bands.now) a.tasks.now in
+    rw (
+      c.put_plan.ensures,
+      c.file_length.ensures.counted,
+      sym (c.check.ensures a.sense) ∙ c.in_ok-check.was,
+      long,
+      sym c.room_for.ensures ∙ c.in_ok-room_for.was,
+    )
+    (rw long)

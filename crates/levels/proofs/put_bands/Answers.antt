@@ -2,67 +2,52 @@
 use native.Mathlib.Omega.{arith}
 use mathlib.Core.Path.{ap, ◌∙◌}
 use mathlib.Core.List.{append-nil}
-use Prim.Native.Nat.{◌≤◌, ◌<◌}
+use Prim.Native.Nat.{◌<◌}
 use lib.ListN.{length, take, get_or}
 use Rattle.integers.proofs.Lists.{each_at, each_all}
 use Rattle.plan.specs.Powers.{power}
 use Rattle.plan.specs.Tasks.{no_band}
 use Rattle.rules.specs.Calls.{band_ends}
 use Rattle.rules.proofs.Bands.{ends_in}
-use Rattle.rows.specs.View.{bands_of}
-use Rattle.rows.proofs.View.{length_bands}
 use Rattle.levels.proofs.Adds.{after_within}
 use Rattle.levels.proofs.Loops.{events_few, keys_more, start_more, keys_end, start_end, laid_front}
 use Rattle.levels.proofs.put_bands.Goals as goal
 
 pub put_band-c-requires : goal.put_band-c-requires
 put_band-c-requires c =
-    let b = c.args.b.now in
-    let i = c.loop-i.i in
-    let h : i < length b = omega arith in
-    let e = each_at no_band i (each_all band_ends (bands_of b) c.requires.1) (omega (arith, length_bands b)) in
-    (omega arith, rw c.band_at-a.ensures e, c.loop-i.invariant.5)
+    let i = c.loop-b.b-index in
+    let e = each_at _ i (each_all band_ends c.args.bands.now c.requires.1) (omega arith) in
+    (omega arith, e, c.loop-b.invariant.within)
 
-pub loop-i-preserved : goal.loop-i-preserved
-loop-i-preserved c =
+pub loop-b-preserved : goal.loop-b-preserved
+unfolding no_band
+loop-b-preserved c =
     let k = c.put_band-c in
-    let d = c.band_at-a in
-    let bs = bands_of c.args.b.now in
+    let l = c.loop-b in
+    let bs = c.args.bands.now in
     let r = c.args.r in
     let low = c.args.low.0 in
     let high = c.args.high.0 in
-    let i = c.loop-i.i in
-    let q = c.loop-i.c in
-    let h : i < length bs = omega (arith, length_bands c.args.b.now) in
-    let e = rw d.ensures at k.ensures.laid in
-    let f = ends_in (get_or bs i no_band) (each_at no_band i (each_all band_ends bs c.requires.1) h) in (
-      omega arith,
-      k.auto.keys ∙ c.loop-i.invariant.1,
-      omega (arith, c.loop-i.invariant.2, e.many, events_few r low high q.limit.0 (get_or bs i no_band)),
-      rw (k.ensures.limit_value, d.ensures) (keys_more r low high no_band bs i h q.limit.0 _ _ _ _ e ∙ c.loop-i.invariant.3),
-      rw (k.ensures.start_value, d.ensures) (start_more r low high no_band bs i h q.start.0 ∙ c.loop-i.invariant.4),
-      rw (k.ensures.limit_value, d.ensures) (after_within r q.limit.0 (get_or bs i no_band) f c.loop-i.invariant.5),
-    )
+    let i = l.b-index in
+    let b = get_or bs i no_band in
+    let h : i < length bs = omega arith in
+    let f = ends_in b (each_at no_band i (each_all band_ends bs c.requires.1) h) in
+    record {
+      in_range = omega arith;
+      same_length = k.auto.keys ∙ l.invariant.same_length;
+      few = omega (arith, k.ensures.laid.many, events_few r low high l.c.limit.0 b);
+      laid = rw k.ensures.limit_value (keys_more r low high no_band bs i h l.c.limit.0 _ _ _ _ k.ensures.laid ∙ l.invariant.laid);
+      start = rw k.ensures.start_value (start_more r low high no_band bs i h l.c.start.0 ∙ l.invariant.start);
+      within = rw k.ensures.limit_value (after_within r l.c.limit.0 b f l.invariant.within);
+    }
 
 pub returns-clause-laid : goal.returns-clause-laid
 returns-clause-laid c =
-    let bs = bands_of c.args.b.now in
-    let r = c.args.r in
-    let low = c.args.low.0 in
-    let i = c.loop-i.i in
-    let q = c.loop-i.c in
-    let h : length bs ≤ i = omega (arith, length_bands c.args.b.now) in
-    let none = keys_end r low bs i h c.args.high.0 q.limit.0 in
-    let e = rw (c.own_limit-c.ensures, none, append-nil (take q.events c.loop-i.keys)) at c.loop-i.invariant.3 in
-    laid_front _ _ _ _ _ (omega arith) (omega arith) e
+    let l = c.loop-b in
+    let none = keys_end c.args.r c.args.low.0 c.args.bands.now l.b-index (omega arith) c.args.high.0 l.c.limit.0 in
+    laid_front _ _ _ _ _ (omega arith) (omega arith) (rw (none, append-nil (take l.c.events l.keys)) at l.invariant.laid)
 
 pub returns-clause-start_value : goal.returns-clause-start_value
 returns-clause-start_value c =
-    let bs = bands_of c.args.b.now in
-    let r = c.args.r in
-    let low = c.args.low.0 in
-    let i = c.loop-i.i in
-    let q = c.loop-i.c in
-    let h : length bs ≤ i = omega (arith, length_bands c.args.b.now) in
-    let f = rw (c.own_limit-c.ensures, start_end r low bs i h q.start.0) at c.loop-i.invariant.4 in
-    ap power f
+    let l = c.loop-b in
+    ap power (rw (start_end c.args.r c.args.low.0 c.args.bands.now l.b-index (omega arith) l.c.start.0) at l.invariant.start)

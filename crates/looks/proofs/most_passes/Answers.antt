@@ -1,7 +1,6 @@
--- The most passes are looked for.
-use Rattle.answers.specs.Files.{most_file}
+-- The tasks passed the checks.
+use Rattle.looks.proofs.Looked.{tasks_entered}
 use Rattle.looks.proofs.most_passes.Goals as goal
 
-pub returns : goal.returns
-unfolding most_file
-returns c = c.look_at_rows.ensures
+pub most_passes-requires : goal.most_passes-requires
+most_passes-requires c = tasks_entered c.args.file.now c.read_tasks.new.tasks c.in_ok-n.n c.in_ok-n.ensures

@@ -1,71 +1,48 @@
--- The step's own function asked with the resource's limit and kind; what it touched is noted.
-use native.Mathlib.Omega.{arith}
-use mathlib.Core.Path.{refl, sym, ap₂, ◌∙◌, subst}
-use Prim.Native.Nat.{◌<◌}
-use Rattle.integers.specs.Ends.{Within}
-use Rattle.plan.specs.declared.Kind.{Kind}
-use Rattle.plan.specs.declared.Power.{Power}
-use Rattle.plan.specs.Powers.{power_ends}
+-- The step's own function asked with the resource at the place; what it touched is noted.
+use Rattle.std.specs.Prelude.{Some}
+use mathlib.Core.Path.{◌≡◌, refl, ◌∙◌}
+use mathlib.Core.Bool.{not}
+use lib.Dec.{eqb}
+use Rattle.integers.specs.Tests.{or}
 use Rattle.plan.specs.Sets.{union}
-use Rattle.rules.specs.Frame.{resource_count, limit_from, limit_on, floor}
-use Rattle.rules.specs.Step.{at_least_step}
-use Rattle.rules.proofs.Checks.{Accepts, accepts, check_wide}
-use Rattle.rows.specs.View.{tasks_of, at_least}
-use Rattle.rows.proofs.View.{length_tasks}
-use Rattle.held.proofs.Room.{room_at}
-use Rattle.idle.proofs.Mask.{at_least_step_lem, step_took}
-use Rattle.passes.proofs.Ready.{place_inside, place_small}
+use Rattle.plan.specs.Tasks.{no_resource}
+use Rattle.plan.specs.declared.Sense.TheVariants.{AtLeast}
+use Rattle.rules.specs.Frame.{framed}
+use Rattle.rules.proofs.Checks.{check_wide}
+use Rattle.idle.proofs.Mask.{step_took}
+use Rattle.passes.proofs.Ready.{place_small, ready_asks, ready_lent, at_place}
+use Rattle.passes.proofs.resource_step.Goals.{then-p, else-p}
 use Rattle.passes.proofs.resource_step.Goals as goal
 
-pub step-o-requires : goal.step-o-requires
-step-o-requires c =
-    let f = at_least c.args.q.now c.args.b.now in
-    let ts = tasks_of c.args.s.now in
-    let known : Accepts f ts = accepts f ts c.requires.ready.1.accepted in
-    let inside : c.args.r < resource_count f = place_inside c.args.q.now c.args.b.now c.args.r c.requires.ready.0 in
-    let small : c.args.r < 64 = place_small c.requires.ready.1 c.args.r c.requires.ready.0 in
-    let l = c in
-    let b = l in
-    let k = known in
-    let r = b.args.r in
-    let e = b.requires.ready.1.lent in
-    let some = rw (sym c.kind_at-kind.ensures) at (room_at f.resources r (inside)) in record {
-      asks = record {
-        place = small;
-        limited = subst (λ (p : Power). Within power_ends p.0) (sym l.limit_at-limit.ensures) (k.limits r (inside));
-        banded = k.banded r;
-        few_bands = k.few_bands;
-        few = omega (arith, k.few, length_tasks b.args.s.now);
-      };
-      lent = record {
-        keys_long = omega (arith, e.keys_long, some);
-        spare_long = omega (arith, e.spare_long, some);
-        stretches_long = omega (arith, e.stretches_long, some);
-      };
-      each = check_wide f ts b.requires.ready.1.accepted;
-    }
+pub step-requires-clause-asks : goal.step-requires-clause-asks
+unfolding no_resource
+step-requires-clause-asks c = ready_asks c.requires.ready.1 c.args.place c.requires.ready.0
+
+pub step-requires-clause-lent : goal.step-requires-clause-lent
+unfolding no_resource
+step-requires-clause-lent c = ready_lent c.requires.ready.1 c.args.place c.requires.ready.0
+
+pub step-requires-clause-each : goal.step-requires-clause-each
+step-requires-clause-each c = check_wide (framed AtLeast c.args.resources.now c.args.bands.now) c.args.tasks.now c.requires.ready.1.accepted
+
+pub returns-in_err-touched-clause-took : goal.returns-in_err-touched-clause-took
+unfolding no_resource
+returns-in_err-touched-clause-took c =
+    let e = c.in_err-touched.ensures.outcome ∙ at_place c.args.resources.now c.args.bands.now c.args.place c.args.tasks.now in
+    rw c.from_residual.ensures record { outcome = e; noted = tt }
 
 pub without_resource-requires : goal.without_resource-requires
-without_resource-requires c =
-    let f = at_least c.args.q.now c.args.b.now in
-    let ts = tasks_of c.args.s.now in
-    let small : c.args.r < 64 = place_small c.requires.ready.1 c.args.r c.requires.ready.0 in
-    small
+without_resource-requires c = place_small c.requires.ready.1 c.args.place c.requires.ready.0
 
-pub returns : goal.returns
-unfolding limit_on union
-returns c =
-    let f = at_least c.args.q.now c.args.b.now in
-    let ts = tasks_of c.args.s.now in
-    let inside : c.args.r < resource_count f = place_inside c.args.q.now c.args.b.now c.args.r c.requires.ready.0 in
-    let d = c in
-    let g = d in
-    let l = g in
-    let b = l in
-    let p = b.args.p in
-    let r = b.args.r in
-    rw (c.some_touched.ensures, c.without_resource.ensures)
-    (step_took f refl ts (tasks_of d.step-o.new.s) b.requires.ready.1.accepted d.step-o.result d.step-o.ensures.noted r (inside) p.changed p.mask b.requires.idle
-    (d.step-o.ensures.outcome
-    ∙ ap₂ (λ (k : Kind) (x : Power). at_least_step r (floor k (limit_from r x.0 f.bands)) ts) g.kind_at-kind.ensures l.limit_at-limit.ensures
-    ∙ sym (at_least_step_lem f refl r ts)))
+pub returns-clause-took : goal.returns-clause-took
+unfolding union no_resource
+returns-clause-took c =
+    let q = c.args.resources.now in
+    let b = c.args.bands.now in
+    let s = c.step in
+    let n = c.in_ok-touched in
+    let changed : c.if-p.result ≡ or c.args.p.changed (not (eqb n.touched 0)) =
+    elim c.if-p.branch [ then-p w ↦ rw (w.result-is, w.if-p.true) refl | else-p w ↦ rw (w.result-is, w.if-p.false) refl ] in
+    rw (changed, c.without_resource.ensures)
+    (step_took (framed AtLeast q b) refl c.args.tasks.now s.new.tasks c.requires.ready.1.accepted (Some n.touched) n.ensures.noted c.args.place c.requires.ready.0
+    c.args.p.changed c.args.p.mask c.requires.idle (n.ensures.outcome ∙ at_place q b c.args.place c.args.tasks.now))

@@ -1,91 +1,88 @@
--- What is still due from the cursor on decides; the bands still to come, put into the list as it is now, give the list with all of them.
+-- What is still due from the reader on decides; the bands still to come, put into the list as it is now, give the list with all of them.
+use Rattle.std.specs.Prelude.{Ok, Err}
 use native.Mathlib.Omega.{arith}
 use mathlib.Core.Path.{◌≡◌, refl, sym, ap, ◌∙◌}
 use mathlib.Core.List.{List}
-use Prim.Native.Nat.{ℕ, ◌+◌, ◌≤◌, ◌<◌}
-use lib.ListN.{length, drop, set, length-set}
+use Prim.Native.Nat.{ℕ}
+use lib.ListN.{drop, set}
+use Rattle.std.proofs.lemmas.Result.{err_from_is_err_and}
 use Rattle.plan.specs.declared.Band.{Band}
-use Rattle.plan.specs.declared.Checked.TheVariants.{Accepted, Refused}
-use Rattle.rows.specs.View.{bands_of}
-use Rattle.rows.proofs.View.{length_bands}
+use Rattle.plan.specs.declared.Refusal.{Refusal}
+use Rattle.plan.specs.Refusals.{accepted}
 use Rattle.format.specs.declared.Mark.TheVariants.{LB}
-use Rattle.format.specs.Format.{size, numbers_in, band_from}
+use Rattle.format.specs.Format.{bands, numbers_in, band_from}
 use Rattle.format.specs.Reading.{due}
 use Rattle.format.proofs.Records.{due_alone}
-use Rattle.cursor.specs.declared.Cursor.{Cursor}
-use Rattle.cursor.specs.declared.Record.{Record}
-use Rattle.cursor.specs.Handed.{record_at, not_due}
-use Rattle.cursor.proofs.Due.{Other, mark_told, band_taken, refused}
+use Rattle.reader.specs.Taking.{taken_at}
+use Rattle.reader.proofs.Handing.{one_taken, none_taken}
 use Rattle.runs.proofs.Going.{short_due, many_due, full_due, going_starts, going_on, going_refused, going_ends}
 use Rattle.runs.proofs.read_bands.Goals as goal
 
--- what was handed out at a place: a band, or no band
-module _ (file : List ℕ) (at : ℕ) {r : Record} (e : r ≡ record_at file at) where
-  taken : {b : Band} {c : Cursor} → r ≡ Record.Band b c → (due LB at (drop at file) ≡ Accepted) × (b ≡ band_from (numbers_in LB (drop at file))) × (c.at ≡ at + size LB)
-  unfolding record_at
-  taken g =
-      let w = band_taken at (drop at file) e g in
-      (rw (due_alone LB (drop at file) refl) at w.0, w.1, w.2)
+-- what was taken at a place: a band, or no band
+module _ (file : List ℕ) (at : ℕ) where
+  taken : {b : Band} → taken_at bands file at ≡ Ok b → (due LB at (drop at file) ≡ accepted) × (b ≡ band_from (numbers_in LB (drop at file)))
+  taken e = let w = one_taken bands file at e in (rw (due_alone LB (drop at file) refl) at w.0, w.1)
 
-  not_taken : Other LB r → due LB at (drop at file) ≡ Refused (not_due LB at r)
-  unfolding record_at
-  not_taken n = rw (due_alone LB (drop at file) refl) at (refused at (drop at file) e LB n)
+  not_taken : {f : Refusal} → taken_at bands file at ≡ Err f → due LB at (drop at file) ≡ Err f
+  not_taken e = rw (due_alone LB (drop at file) refl) at (none_taken bands file at e)
 
-pub loop-c-init : goal.loop-c-init
-loop-c-init c = let a = c.args in (refl, going_starts a.file.now a.from (bands_of a.b.now))
+pub loop-reader-init : goal.loop-reader-init
+loop-reader-init c = let a = c.args in (refl, going_starts a.reader.now.file.now a.reader.now.at a.bands.now)
 
-pub returns-in_default : goal.returns-in_default
-returns-in_default c =
-    let l = c.loop-c in
-    let file = c.args.file.now in
-    let b₀ = c.args.b.now in
-    let m = sym (c.stands_before.ensures ∙ mark_told LB (drop l.c.at file)) ∙ c.loop-c-test.true in
-    let d = not_taken file l.c.at c.next_due_at-got.ensures c.in_default.not-Band in
-    record {
-      read_bands = rw (← length_bands b₀) (going_refused l.invariant.1 m (short_due (length (bands_of b₀)) l.k l.c.at (drop l.c.at file) m d));
-      run_within = tt;
-    }
+pub returns-in_err-band-clause-read_bands : goal.returns-in_err-band-clause-read_bands
+returns-in_err-band-clause-read_bands c =
+    let l = c.loop-reader in
+    let at = l.reader.at in
+    let m = rw l.invariant.0 at (sym c.stands_before.ensures ∙ c.loop-reader-test.true) in
+    let d = rw l.invariant.0 at (not_taken l.reader.file.now at (sym c.take.ensures.taken ∙ c.in_err-band.was)) in
+    let p = err_from_is_err_and c.from_residual.result c.from_residual.ensures.1 in
+    rw (p.1, p.2) (going_refused l.invariant.1 m (short_due _ l.k at _ m d))
+
+pub returns-in_err-band-clause-same_file : goal.returns-in_err-band-clause-same_file
+returns-in_err-band-clause-same_file c = c.take.ensures.same_file ∙ c.loop-reader.invariant.0
 
 pub returns-then-k-ge-MOST_BANDS-clause-read_bands : goal.returns-then-k-ge-MOST_BANDS-clause-read_bands
 returns-then-k-ge-MOST_BANDS-clause-read_bands c =
-    let l = c.loop-c in
-    let file = c.args.file.now in
-    let b₀ = c.args.b.now in
-    let m = sym (c.stands_before.ensures ∙ mark_told LB (drop l.c.at file)) ∙ c.loop-c-test.true in
-    let t = taken file l.c.at c.next_due_at-got.ensures c.in-Band.is in
-    let d = many_due (length (bands_of b₀)) l.k l.c.at (drop l.c.at file) t.0 (omega arith) in
-    rw (← length_bands b₀) (going_refused l.invariant.1 m d)
+    let l = c.loop-reader in
+    let at = l.reader.at in
+    let m = rw l.invariant.0 at (sym c.stands_before.ensures ∙ c.loop-reader-test.true) in
+    let t = rw l.invariant.0 at (taken l.reader.file.now at (sym c.take.ensures.taken ∙ c.in_ok-band.was)) in
+    going_refused l.invariant.1 m (many_due _ l.k at _ t.0 (omega arith))
 
-pub returns-then-b-k-clause-read_bands : goal.returns-then-b-k-clause-read_bands
-returns-then-b-k-clause-read_bands c =
-    let l = c.loop-c in
-    let file = c.args.file.now in
-    let b₀ = c.args.b.now in
-    let m = sym (c.stands_before.ensures ∙ mark_told LB (drop l.c.at file)) ∙ c.loop-c-test.true in
-    let t = taken file l.c.at c.next_due_at-got.ensures c.in-Band.is in
-    let n = length_bands b₀ in
-    let full : length (bands_of b₀) ≤ l.k = omega (arith, n, l.invariant.0) in
-    let d = full_due (length (bands_of b₀)) l.k l.c.at (drop l.c.at file) t.0 (omega arith) full in
-    rw (← n) (going_refused l.invariant.1 m d)
+pub returns-then-k-ge-MOST_BANDS-clause-same_file : goal.returns-then-k-ge-MOST_BANDS-clause-same_file
+returns-then-k-ge-MOST_BANDS-clause-same_file c = c.take.ensures.same_file ∙ c.loop-reader.invariant.0
 
-pub loop-c-preserved : goal.loop-c-preserved
-loop-c-preserved c =
-    let l = c.loop-c in
-    let file = c.args.file.now in
-    let b₀ = c.args.b.now in
-    let put = c.put_band in
-    let m = sym (c.stands_before.ensures ∙ mark_told LB (drop l.c.at file)) ∙ c.loop-c-test.true in
-    let t = taken file l.c.at c.next_due_at-got.ensures c.in-Band.is in
-    let n = length_bands b₀ in
-    let same : length put.new.s ≡ length b₀ =
-    omega (arith, l.invariant.0, length_bands put.new.s, length_bands l.b, ap length put.ensures, length-set (bands_of l.b) l.k c.in-Band.band) in
-    let fits : l.k < length (bands_of b₀) = omega (arith, n, l.invariant.0) in
-    (same, rw t.2 (going_on l.invariant.1 m t.0 (omega arith) fits (put.ensures ∙ ap (set (bands_of l.b) l.k) t.1)))
+pub returns-then-bands-k-clause-read_bands : goal.returns-then-bands-k-clause-read_bands
+returns-then-bands-k-clause-read_bands c =
+    let l = c.loop-reader in
+    let at = l.reader.at in
+    let m = rw l.invariant.0 at (sym c.stands_before.ensures ∙ c.loop-reader-test.true) in
+    let t = rw l.invariant.0 at (taken l.reader.file.now at (sym c.take.ensures.taken ∙ c.in_ok-band.was)) in
+    going_refused l.invariant.1 m (full_due _ l.k at _ t.0 (omega arith) (omega arith))
 
-pub returns : goal.returns
-returns c =
-    let l = c.loop-c in
-    let n = length_bands c.args.b.now in
-    let fits = l.invariant.1.fits in
-    let m = sym (c.stands_before.ensures ∙ mark_told LB (drop l.c.at c.args.file.now)) ∙ c.loop-c-test.false in
-    record { read_bands = rw (← n) (going_ends l.invariant.1 m); run_within = omega (arith, n, l.invariant.0) }
+pub returns-then-bands-k-clause-same_file : goal.returns-then-bands-k-clause-same_file
+returns-then-bands-k-clause-same_file c = c.take.ensures.same_file ∙ c.loop-reader.invariant.0
+
+pub loop-reader-preserved : goal.loop-reader-preserved
+loop-reader-preserved c =
+    let l = c.loop-reader in
+    let at = l.reader.at in
+    let m = rw l.invariant.0 at (sym c.stands_before.ensures ∙ c.loop-reader-test.true) in
+    let t = rw l.invariant.0 at (taken l.reader.file.now at (sym c.take.ensures.taken ∙ c.in_ok-band.was)) in (
+      c.take.ensures.same_file ∙ l.invariant.0,
+      rw c.in_ok-band.ensures.past (going_on l.invariant.1 m t.0 (omega arith) (omega arith) (ap (set l.bands l.k) t.1)),
+    )
+
+pub returns-clause-read_bands : goal.returns-clause-read_bands
+returns-clause-read_bands c =
+    let l = c.loop-reader in
+    going_ends l.invariant.1 (rw l.invariant.0 at (sym c.stands_before.ensures ∙ c.loop-reader-test.false))
+
+pub returns-clause-run_within : goal.returns-clause-run_within
+returns-clause-run_within c = let fits = c.loop-reader.invariant.1.fits in omega arith
+
+pub returns-clause-past : goal.returns-clause-past
+returns-clause-past c = c.loop-reader.invariant.1.place
+
+pub returns-clause-same_file : goal.returns-clause-same_file
+returns-clause-same_file c = c.loop-reader.invariant.0

@@ -1,16 +1,9 @@
-use mathlib.Core.Path.{◌≡◌}
-use Prim.Native.Nat.{◌≤◌, ◌-◌}
-use lib.ListN.{length, drop}
+use Rattle.std.proofs.Common.{◌≡◌, drop}
 use Rattle.integers.specs.Ends.{Within}
-use Rattle.stretches.specs.View.{stretches_of}
-use Rattle.searches.specs.Searches.{barred_part, near_ends}
+use Rattle.searches.specs.Searches.{near_ends}
 use Rattle.searches.proofs.FirstFree.{first_from}
 use Rattle.searches.proofs.first_free.Given as goal
 
-abbrev pub invariant-loop-k : goal.invariant-loop-k
-invariant-loop-k l =
-    (l.k ≤ length l.ss) × Within near_ends l.v.0
-    × (first_from (barred_part l.x) l.d.0 (drop l.k (stretches_of l.ss)) l.v.0 ≡ first_from (barred_part l.x) l.d.0 (stretches_of l.ss) l.initial.v.0)
-
-abbrev pub decreases-loop-k : goal.decreases-loop-k
-decreases-loop-k l = length l.ss - l.k
+-- what is left of the search, from the value that it has come to, gives what the whole search gives
+abbrev pub invariant-loop-s : goal.invariant-loop-s
+invariant-loop-s l = Within near_ends l.v.0 × (first_from l.x l.d.0 (drop l.s-index l.stretches) l.v.0 ≡ first_from l.x l.d.0 l.stretches l.initial.v.0)

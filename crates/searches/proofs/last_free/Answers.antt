@@ -1,59 +1,78 @@
--- What is left of the search, from the value that it has come to, gives what the whole search gives.
-use native.Mathlib.Omega.{arith}
-use mathlib.Core.Path.{◌≡◌, refl, sym, ◌∙◌}
-use mathlib.Core.List.{List}
-use lib.IntN.{ℤ}
-use Rattle.stretches.specs.declared.Stretch.{Stretch}
-use Rattle.searches.specs.declared.Part.{Part}
-use Prim.Native.Nat.{ℕ, suc, ◌<◌, ◌-◌}
-use lib.ListN.{length, take}
-use lib.Seq.{take_all}
-use Rattle.stretches.specs.View.{stretches_of}
-use Rattle.stretches.proofs.View.{length_stretches}
-use Rattle.searches.specs.Searches.{barred_part}
-use Rattle.searches.proofs.FirstFree.{barred_placed}
-use Rattle.searches.proofs.LastFree.{last_of, last_more, last_stop, last_answer, back_near}
+-- Stretch by stretch from the last: what is left gives what the whole search gives.
+use Rattle.std.proofs.Common.{rules, ◌≡◌, true, false, sym, ◌∙◌}
+use mathlib.Core.List.{[], ◌∷◌, ◌++◌}
+use lib.IntN.{◌-ℤ◌}
+use lib.Signed.{◌≤ℤ◌, ◌<ℤ◌, le_z}
+use Rattle.std.specs.Slice.Iter.{iter_rest}
+use Rattle.std.specs.Iterator.Adapters.{rev_source}
+use Rattle.std.proofs.lemmas.List.{nil_from_length}
+use Rattle.integers.specs.Whole.{smaller}
+use Rattle.integers.proofs.Z.{z, -z, minz}
+use Rattle.searches.specs.Searches.{shared}
+use Rattle.searches.proofs.Parts.{min_is}
+use Rattle.searches.proofs.Order.{ordered_front}
+use Rattle.searches.proofs.LastFree.{last_stop, last_more, last_answer}
 use Rattle.searches.proofs.last_free.Goals as goal
 
--- what is left is the search over k stretches
-left : (p : Stretch → Part) (d v : ℤ) (k : ℕ) (ss : List Stretch) {r : ℤ} → 0 < k → last_of p d (take k ss) v ≡ r → last_of p d (take (suc (k - 1)) ss) v ≡ r
-left p d v k ss h e = let same : suc (k - 1) ≡ k = omega arith in rw same e
-
-pub loop-k-init : goal.loop-k-init
-loop-k-init c = let ss = c.args.ss.now in
-    (omega arith, c.requires.3, rw (take_all (length ss) (stretches_of ss) (omega (arith, length_stretches ss))) refl)
-
-pub returns-then-not_after : goal.returns-then-not_after
-returns-then-not_after c = let u = c in
-    let d = u in
-    let b = d in
-    let a = b in
-    let ss = stretches_of a.args.ss.now in
-    let l : b.loop-k.k - 1 < length ss = omega (arith, length_stretches a.args.ss.now) in
-    let e = sym u.not_after.ensures ∙ c.if-not_after.true in (
-      b.loop-k.invariant.1,
-      last_answer a.args.x a.args.d.0 a.requires.2 ss a.args.high.0 b.loop-k.v.0
-          (λ o. sym (last_stop a.args.x a.args.d.0 (b.loop-k.k - 1) b.loop-k.v.0 ss o l d.stretch_at.ensures d.barred-p.ensures e) ∙ left (barred_part a.args.x) a.args.d.0 b.loop-k.v.0 b.loop-k.k ss (omega arith) b.loop-k.invariant.2),
+pub returns-then-le : goal.returns-then-le
+returns-then-le c =
+    let x = c.args.x in
+    let d = c.args.d.0 in
+    let ss = c.args.stretches.now in
+    let v = c.loop-s.v.0 in
+    let s = c.in-Some.s.now in
+    let left = iter_rest (rev_source c.next.new.self) in
+    let step : iter_rest (rev_source c.loop-s.s-iterator) ≡ left ++ s ∷ [] = c.in-Some.ensures.steps in
+    let to = (shared x.days s).to.0 in
+    let m : c.min.result.0 ≡ to = min_is s.to x.days.to c.min.ensures in
+    let e : le_z c.min.result.0 v ≡ true = search rules in
+    let h : to ≤ℤ v = omega z in (
+      c.loop-s.invariant.0,
+      last_answer x d c.requires.2 ss c.args.high.0 v (λ o.
+          sym (last_stop x d left s v (rw step at (c.loop-s.invariant.1 o)) h) ∙ (rw step at c.loop-s.invariant.2)),
     )
 
-pub loop-k-preserved : goal.loop-k-preserved
-loop-k-preserved c = let u = c in
-    let d = u in
-    let b = d in
-    let a = b in
-    let ss = stretches_of a.args.ss.now in
-    let l : b.loop-k.k - 1 < length ss = omega (arith, length_stretches a.args.ss.now) in
-    let e = sym u.not_after.ensures ∙ c.if-not_after.false in
-    let f = last_more (barred_part a.args.x) a.args.d.0 (b.loop-k.k - 1) b.loop-k.v.0 ss l d.stretch_at.ensures d.barred-p.ensures e in
-    let p = barred_placed a.args.x d.stretch_at.result d.barred-p.ensures a.requires.0 in
-    let n = back_near d.barred-p.result a.args.d.0 b.loop-k.v.0 p a.requires.1 b.loop-k.invariant.1 in
-    (omega arith, rw c.back-v.ensures n, rw c.back-v.ensures (sym f ∙ left (barred_part a.args.x) a.args.d.0 b.loop-k.v.0 b.loop-k.k ss (omega arith) b.loop-k.invariant.2))
+pub loop-s-preserved-in-Some-barred : goal.loop-s-preserved-in-Some-barred
+loop-s-preserved-in-Some-barred c =
+    let x = c.args.x in
+    let d = c.args.d.0 in
+    let v = c.loop-s.v.0 in
+    let s = c.in-Some.s.now in
+    let left = iter_rest (rev_source c.next.new.self) in
+    let step : iter_rest (rev_source c.loop-s.s-iterator) ≡ left ++ s ∷ [] = c.in-Some.ensures.steps in
+    let to = (shared x.days s).to.0 in
+    let m : c.min.result.0 ≡ to = min_is s.to x.days.to c.min.ensures in
+    let e : le_z c.min.result.0 v ≡ false = search rules in
+    let h : v <ℤ to = omega z in
+    let p = c.in-Some-barred.hit in
+    let u : c.min-v.result.0 ≡ smaller v (p.from.0 -ℤ d) = rw c.sub.ensures at (min_is c.loop-s.v c.sub.result c.min-v.ensures) in (
+      omega (z, minz v (p.from.0 -ℤ d), -z p.from.0 d, c.in-Some-barred.ensures.among, c.requires),
+      λ o. ordered_front left s (rw step at (c.loop-s.invariant.1 o)),
+      rw u (sym (last_more x d left s v h c.in-Some-barred.ensures.part) ∙ (rw step at c.loop-s.invariant.2)),
+    )
+
+pub loop-s-preserved : goal.loop-s-preserved
+loop-s-preserved c =
+    let x = c.args.x in
+    let d = c.args.d.0 in
+    let v = c.loop-s.v.0 in
+    let s = c.in-Some.s.now in
+    let left = iter_rest (rev_source c.next.new.self) in
+    let step : iter_rest (rev_source c.loop-s.s-iterator) ≡ left ++ s ∷ [] = c.in-Some.ensures.steps in
+    let to = (shared x.days s).to.0 in
+    let m : c.min.result.0 ≡ to = min_is s.to x.days.to c.min.ensures in
+    let e : le_z c.min.result.0 v ≡ false = search rules in
+    let h : v <ℤ to = omega z in (
+      c.loop-s.invariant.0,
+      λ o. ordered_front left s (rw step at (c.loop-s.invariant.1 o)),
+      sym (last_more x d left s v h c.in_default.ensures.part) ∙ (rw step at c.loop-s.invariant.2),
+    )
 
 pub returns : goal.returns
-unfolding last_of
-returns c = let b = c in
-    let a = b in
-    let e : b.loop-k.k ≡ 0 = omega arith in (
-      b.loop-k.invariant.1,
-      last_answer a.args.x a.args.d.0 a.requires.2 (stretches_of a.args.ss.now) a.args.high.0 b.loop-k.v.0 (λ o. rw e at b.loop-k.invariant.2),
-    )
+returns c =
+    let x = c.args.x in
+    let d = c.args.d.0 in
+    let v = c.loop-s.v.0 in
+    let left = iter_rest (rev_source c.loop-s.s-iterator) in
+    let none : left ≡ [] = nil_from_length left c.in-None.ensures.steps.0 in
+    (c.loop-s.invariant.0, last_answer x d c.requires.2 c.args.stretches.now c.args.high.0 v (λ o. rw none at c.loop-s.invariant.2))

@@ -1,16 +1,14 @@
-use mathlib.Core.Path.{◌≡◌}
-use Prim.Native.Nat.{◌≤◌}
-use lib.ListN.{length, take}
+use Rattle.std.proofs.Common.{◌≡◌}
+use Rattle.std.specs.Slice.Iter.{iter_rest}
+use Rattle.std.specs.Iterator.Adapters.{rev_source}
 use Rattle.integers.specs.Ends.{Within}
-use Rattle.stretches.specs.View.{stretches_of}
-use Rattle.searches.specs.Searches.{barred_part, near_ends}
+use Rattle.stretches.specs.Tells.{Ordered}
+use Rattle.searches.specs.Searches.{near_ends}
 use Rattle.searches.proofs.LastFree.{last_of}
 use Rattle.searches.proofs.last_free.Given as goal
 
-abbrev pub invariant-loop-k : goal.invariant-loop-k
-invariant-loop-k l =
-    (l.k ≤ length l.ss) × Within near_ends l.v.0
-    × (last_of (barred_part l.x) l.d.0 (take l.k (stretches_of l.ss)) l.v.0 ≡ last_of (barred_part l.x) l.d.0 (stretches_of l.ss) l.initial.v.0)
-
-abbrev pub decreases-loop-k : goal.decreases-loop-k
-decreases-loop-k l = l.k
+-- the search over what is left, from the value that it has come to, gives what the whole search gives
+abbrev pub invariant-loop-s : goal.invariant-loop-s
+invariant-loop-s l =
+    let left = iter_rest (rev_source l.s-iterator) in
+    Within near_ends l.v.0 × (Ordered l.stretches → Ordered left) × (last_of l.x l.d.0 left l.v.0 ≡ last_of l.x l.d.0 l.stretches l.initial.v.0)

@@ -1,13 +1,8 @@
-use Prim.Native.Nat.{ℕ, ◌-◌, ◌≤◌, ◌<◌}
-use lib.ListN.{length, get_or}
-use lib.Signed.{◌≤ℤ◌}
-use Rattle.stretches.specs.View.{stretches_of, no_stretch}
+-- `least_of`: of the stretches so far none has less.
+use Rattle.std.proofs.Common.{ℕ, ◌<◌, get_or, ◌≤ℤ◌}
+use Rattle.stretches.specs.View.{no_stretch}
 use Rattle.step.proofs.least_of.Given as goal
 
-abbrev pub invariant-loop-k : goal.invariant-loop-k
-invariant-loop-k l =
-    (l.k ≤ length l.ss)
-    × ((q : ℕ) → q < l.k → (l.l.slack.0 ≤ℤ (get_or (stretches_of l.ss) q no_stretch).slack.0) × (l.l.tight.0 ≤ℤ (get_or (stretches_of l.ss) q no_stretch).tight.0))
-
-abbrev pub decreases-loop-k : goal.decreases-loop-k
-decreases-loop-k l = length l.ss - l.k
+abbrev pub invariant-loop-s : goal.invariant-loop-s
+invariant-loop-s l =
+    (k : ℕ) → k < l.s-index → (l.least.slack.0 ≤ℤ (get_or l.stretches k no_stretch).slack.0) × (l.least.tight.0 ≤ℤ (get_or l.stretches k no_stretch).tight.0)

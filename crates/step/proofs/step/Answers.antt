@@ -1,56 +1,35 @@
 -- A shortfall is no plan; else every task by itself, as the page has it.
-use mathlib.Core.Path.{◌≡◌, refl, sym, ◌∙◌, subst}
-use mathlib.Core.Bool.{false}
-use mathlib.Core.List.{[]}
-use Prim.Native.Nat.{ℕ}
-use lib.ListN.{take}
-use Rattle.integers.specs.Tests.{any}
-use Rattle.integers.specs.Lists.{In}
-use Rattle.integers.proofs.Tests.{clash}
 use Rattle.integers.proofs.Lists.{each_so}
-use Rattle.plan.specs.declared.Task.{Task}
 use Rattle.rules.specs.Frame.{limit_from, floor}
-use Rattle.rules.specs.Step.{shortfall, listed_days}
-use Rattle.rows.specs.View.{tasks_of, bands_of}
-use Rattle.rows.proofs.Changes.{touched_self}
-use Rattle.stretches.specs.View.{stretches_of}
-use Rattle.stretches.specs.Tells.{Tells}
-use Rattle.stretches.proofs.View.{stretches_take}
-use Rattle.step.specs.Told.{TellsAll}
-use Rattle.step.proofs.Listed.{none_left, step_enough, step_short}
+use Rattle.changes.proofs.Changes.{touched_self}
+use Rattle.step.proofs.Listed.{answered_short, answered_ok, answered_tells, answered_each, answered_calm}
+use mathlib.Core.Path.{sym}
 use Rattle.step.proofs.step.Goals as goal
 
-pub profile-p-requires : goal.profile-p-requires
-profile-p-requires c = let b = c in
-    record { asks = b.requires.asks; lent = b.requires.lent; each = each_so (λ t h. h.ranges) b.requires.each }
+pub profile-requires-clause-each : goal.profile-requires-clause-each
+profile-requires-clause-each c = each_so (λ t h. h.ranges) c.requires.each
 
-pub returns-then-p : goal.returns-then-p
-returns-then-p c = let d = c in
-    let b = c in
-    let limit = floor b.args.kind (limit_from b.args.r b.args.limit.0 (bands_of b.args.b.now)) in record { outcome = sym (step_short b.args.r limit (tasks_of b.args.s.now) (sym d.profile-p.ensures.profile.short_is ∙ c.if-p.true)); noted = λ h. clash false h refl }
+pub returns-in_err-n-clause-outcome : goal.returns-in_err-n-clause-outcome
+returns-in_err-n-clause-outcome c =
+    let limit = floor c.args.resource.kind (limit_from c.args.r c.args.resource.limit.0 c.args.bands.now) in
+    rw c.from_residual.ensures
+    (answered_short c.args.r limit c.args.tasks.now c.profile.new.work.stretches.now c.profile.result c.profile.ensures.answer
+    c.in_err-n.ensures.value)
 
-pub returns-then-n-eq0 : goal.returns-then-n-eq0
-returns-then-n-eq0 c = let d = c in
-    let b = c in
-    let r = b.args.r in
-    let limit = floor b.args.kind (limit_from r b.args.limit.0 (bands_of b.args.b.now)) in
-    let ts = tasks_of b.args.s.now in
-    let ss = stretches_of d.profile-p.new.ss in
-    let q = d.profile-p.ensures.profile in
-    let enough : any (shortfall r limit ts) (listed_days ts) ≡ false = sym q.short_is ∙ c.if-p.false in
-    let tells : (t : Task) → In t ts → Tells r limit ts t [] = λ t k. subst (λ (n : ℕ). Tells r limit ts t (take n ss)) c.if-n-eq0.true (q.tells k) in
-    record { outcome = sym (step_enough r limit ts enough ∙ none_left r limit ts b.requires.each tells); noted = λ h. sym (touched_self ts) }
+pub returns-then-n-eq0-clause-outcome : goal.returns-then-n-eq0-clause-outcome
+returns-then-n-eq0-clause-outcome c =
+    let limit = floor c.args.resource.kind (limit_from c.args.r c.args.resource.limit.0 c.args.bands.now) in
+    let ss = c.profile.new.work.stretches.now in
+    let are = answered_ok c.args.r limit c.args.tasks.now ss c.profile.result c.profile.ensures.answer c.in_ok-n.n c.in_ok-n.ensures.value in
+    answered_calm c.args.r limit c.args.tasks.now ss c.requires.each (rw c.if-n-eq0.true at are)
 
-pub returns : goal.returns
-returns c = let d = c in
-    let b = c in
-    let r = b.args.r in
-    let limit = floor b.args.kind (limit_from r b.args.limit.0 (bands_of b.args.b.now)) in
-    let ts = tasks_of b.args.s.now in
-    let n = d.profile-p.result.stretches in
-    let ss = d.profile-p.new.ss in
-    let q = d.profile-p.ensures.profile in
-    let enough : any (shortfall r limit ts) (listed_days ts) ≡ false = sym q.short_is ∙ c.if-p.false in
-    let told : TellsAll r limit ts (stretches_of (take n ss)) =
-    record { tells = λ {t} k. subst (Tells r limit ts t) (sym (stretches_take n ss)) (q.tells k); enough = enough } in
-    record { outcome = c.narrow_all.ensures.outcome limit told ∙ sym (step_enough r limit ts enough); noted = c.narrow_all.ensures.noted }
+pub returns-then-n-eq0-clause-noted : goal.returns-then-n-eq0-clause-noted
+returns-then-n-eq0-clause-noted c = sym (touched_self c.args.tasks.now)
+
+pub returns-clause-outcome : goal.returns-clause-outcome
+returns-clause-outcome c =
+    let limit = floor c.args.resource.kind (limit_from c.args.r c.args.resource.limit.0 c.args.bands.now) in
+    let ss = c.profile.new.work.stretches.now in
+    let are = answered_ok c.args.r limit c.args.tasks.now ss c.profile.result c.profile.ensures.answer c.in_ok-n.n c.in_ok-n.ensures.value in
+    answered_each c.args.r limit c.args.tasks.now ss c.in_ok-n.n are _
+    (c.narrow_all.ensures.outcome limit (answered_tells c.args.r limit c.args.tasks.now ss c.in_ok-n.n are))

@@ -9,7 +9,7 @@ returns c =
     put_then c.put_digits-place.ensures
     (put_then c.put_byte-gap.ensures
     (put_then c.put_digits-set.ensures
-    (put_then c.put_days-origin.ensures
-    (put_then c.put_days-duration.ensures
-    (put_then c.put_days-end.ensures
-    (put_then c.put_powers-height.ensures c.put_byte.ensures))))))
+    (put_then c.put_span-origin.ensures
+    (put_then c.put_span-duration.ensures
+    (put_then c.put_span-end.ensures
+    (put_then c.put_span-height.ensures c.put_byte.ensures))))))

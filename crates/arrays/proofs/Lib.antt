@@ -1,2 +1,0 @@
--- The laws of lists that are loaded into arrays.
-pub mod Loaded

@@ -1,2 +1,0 @@
--- What a call on arrays promises.
-pub mod Applies

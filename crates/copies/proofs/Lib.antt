@@ -1,2 +1,0 @@
--- List laws of the loops that load and store.
-pub mod Firsts

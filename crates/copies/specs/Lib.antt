@@ -1,2 +1,0 @@
--- What is loaded of a lent list.
-pub mod Loaded

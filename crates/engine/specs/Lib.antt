@@ -1,2 +1,0 @@
--- What the calls on rows answer and leave.
-pub mod Calls

@@ -1,0 +1,3 @@
+-- Laws of the reading calls.
+pub mod Body
+pub mod First

@@ -1,2 +1,0 @@
--- What the two calls' cores promise.
-pub mod Calls

@@ -1,9 +1,0 @@
--- The places are within the array.
-use Rattle.std.proofs.Common.{◌-◌, ◌≤◌}
-use Rattle.refusals.proofs.many_bands.Given as goal
-
-abbrev pub invariant-loop-k : goal.invariant-loop-k
-invariant-loop-k l = l.k ≤ 65
-
-abbrev pub decreases-loop-k : goal.decreases-loop-k
-decreases-loop-k l = 65 - l.k
