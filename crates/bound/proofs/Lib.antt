@@ -1,3 +1,3 @@
--- Why the sum fits, and what is left of it.
+-- Why each room fits, and their sum.
 pub mod Fits
-pub mod Left
+pub mod Sums

@@ -37,9 +37,5 @@ pub fn most_passes(tasks: &[Task]) -> u64
     requires { Entered tasks.now }
     ensures { result ≡ most_passes tasks.now }
 {
-    let mut most = 1;
-    for t in tasks {
-        most += room_of(*t);
-    }
-    most
+    1 + tasks.iter().map(|t| room_of(*t)).sum::<u64>()
 }

@@ -27,18 +27,6 @@ pub enum Record {
 // The five marks, in the order in which one is looked for.
 const MARKS: [Mark; 5] = [Mark::PL, Mark::RS, Mark::RH, Mark::LB, Mark::TK];
 
-// How long the record is that each mark announces.
-fn size_of(k: Mark) -> usize
-    ensures { result ≡ size k }
-{
-    match k {
-        Mark::PL => table::PL_SIZE,
-        Mark::RS | Mark::RH => table::RS_SIZE,
-        Mark::LB => table::LB_SIZE,
-        Mark::TK => table::TK_SIZE,
-    }
-}
-
 // What each record holds, where the bytes begin with it; a resource's kind is told by its mark.
 #[tactic(auto, unfolding(format::specs::Format::header_from), using(format::proofs::Records::numbers_placed))]
 fn header_of(b: &[u8]) -> Header
@@ -106,7 +94,7 @@ pub fn record_of(k: Mark, at: usize, b: &[u8]) -> Record
     requires { at + length b.now < 2 ^ 64 }
     ensures { result ≡ record_of k at b.now }
 {
-    let size = size_of(k);
+    let size = k.size();
     if b.len() < size {
         return Record::CutShort(k);
     }

@@ -41,7 +41,7 @@ fn apply_at_least(
         Call::Check => Ok(0),
         Call::Balance => balance::balance(tasks).map(|_| 0).ok_or(Refusal::NoPlan),
         Call::Step(place) => {
-            passes::resource_step(resources, bands, tasks, place, idle::no_steps(), work)
+            passes::resource_step(resources, bands, tasks, place, idle::Passed::NONE, work)
                 .map(|_| 0)
                 .ok_or(Refusal::NoPlan)
         }

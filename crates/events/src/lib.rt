@@ -114,6 +114,32 @@ pub struct Change {
     pub sure: Count,
 }
 
+impl Change {
+    // the hope from origin low to end high, with u sure tasks
+    fn hope(t: Task, u: Count) -> Change
+        ensures { result ≡ change t.origin.low.0 t.end.high.0 t.height.high.0 u.0 }
+    {
+        Change {
+            from: t.origin.low,
+            to: t.end.high,
+            power: t.height.high,
+            sure: u,
+        }
+    }
+
+    // one sure task from origin high to end low, with the power p there
+    fn sure(t: Task, p: Power) -> Change
+        ensures { result ≡ change t.origin.high.0 t.end.low.0 p.0 (pos 1) }
+    {
+        Change {
+            from: t.origin.high,
+            to: t.end.low,
+            power: p,
+            sure: Count(1),
+        }
+    }
+}
+
 // A hope and its end, a sure task and its end.
 pub const EVENTS_A_TASK: usize = 4;
 
@@ -151,30 +177,6 @@ fn is_fixed(t: Task) -> bool
     t.origin.high <= t.origin.low && t.end.high <= t.end.low
 }
 
-// the hope from origin low to end high, with u sure tasks
-fn hope_over(t: Task, u: Count) -> Change
-    ensures { result ≡ change t.origin.low.0 t.end.high.0 t.height.high.0 u.0 }
-{
-    Change {
-        from: t.origin.low,
-        to: t.end.high,
-        power: t.height.high,
-        sure: u,
-    }
-}
-
-// one sure task from origin high to end low, with the power p there
-fn sure_over(t: Task, p: Power) -> Change
-    ensures { result ≡ change t.origin.high.0 t.end.low.0 p.0 (pos 1) }
-{
-    Change {
-        from: t.origin.high,
-        to: t.end.low,
-        power: p,
-        sure: Count(1),
-    }
-}
-
 // the events of a task that has r in its set, behind the first n; where its possible days are its sure ones, two events say both
 fn put_events(keys: &mut [u64], n: usize, t: Task, r: u64) -> usize
     requires enough { (n + events_a_task ≤ length keys.old) × (r < set_bits) }
@@ -182,13 +184,13 @@ fn put_events(keys: &mut [u64], n: usize, t: Task, r: u64) -> usize
     ensures { Laid keys.old keys.new n result (task_keys r t) }
 {
     match (is_hopeful(t), is_surely(t, r)) {
-        (true, true) if is_fixed(t) => put_change(keys, n, hope_over(t, Count(1))),
+        (true, true) if is_fixed(t) => put_change(keys, n, Change::hope(t, Count(1))),
         (true, true) => {
-            let m = put_change(keys, n, hope_over(t, Count(0)));
-            put_change(keys, m, sure_over(t, Power(0)))
+            let m = put_change(keys, n, Change::hope(t, Count(0)));
+            put_change(keys, m, Change::sure(t, Power(0)))
         }
-        (true, false) => put_change(keys, n, hope_over(t, Count(0))),
-        (false, true) => put_change(keys, n, sure_over(t, t.height.high)),
+        (true, false) => put_change(keys, n, Change::hope(t, Count(0))),
+        (false, true) => put_change(keys, n, Change::sure(t, t.height.high)),
         (false, false) => n,
     }
 }
@@ -204,28 +206,26 @@ pub struct Extremes {
     pub lift: Power,
 }
 
-#[tactic(auto, unfolding(crate::specs::Extremes::with_task))]
-fn with_task(e: Extremes, t: Task) -> Extremes
-    requires { Bounded t }
-    ensures { result ≡ with_task e t }
-{
-    Extremes {
-        low: e.low.min(t.origin.low),
-        high: e.high.max(t.end.high),
-        bar: e.bar.max(stretches::bar_of(t)),
-        lift: e.lift.max(stretches::lift_of(t)),
-    }
-}
-
-// of no task: the ends of days the other way round, so that the first task sets both
-fn no_extremes() -> Extremes
-    ensures { result ≡ no_extremes }
-{
-    Extremes {
+impl Extremes {
+    // Of no task: the ends of days the other way round, so that the first task sets both.
+    const NONE: Extremes = Extremes {
         low: Day::HIGH,
         high: Day::LOW,
         bar: Power(0),
         lift: Power(0),
+    };
+
+    #[tactic(auto, unfolding(crate::specs::Extremes::with_task))]
+    fn with(self, t: Task) -> Extremes
+        requires { Bounded t }
+        ensures { result ≡ with_task self t }
+    {
+        Extremes {
+            low: self.low.min(t.origin.low),
+            high: self.high.max(t.end.high),
+            bar: self.bar.max(stretches::bar_of(t)),
+            lift: self.lift.max(stretches::lift_of(t)),
+        }
     }
 }
 
@@ -251,7 +251,7 @@ fn collect_task(t: Task, r: u64, keys: &mut [u64], c: Collected) -> Collected
     }
     Collected {
         events: put_events(keys, c.events, t, r),
-        extremes: with_task(c.extremes, t),
+        extremes: c.extremes.with(t),
     }
 }
 
@@ -265,7 +265,7 @@ pub fn collect(tasks: &[Task], r: u64, keys: &mut [u64]) -> Collected
 {
     let mut c = Collected {
         events: 0,
-        extremes: no_extremes(),
+        extremes: Extremes::NONE,
     };
     for t in tasks {
         c = collect_task(*t, r, keys, c);

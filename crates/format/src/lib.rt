@@ -3,7 +3,7 @@
 
 ghost use Rattle.std.specs.Prelude.{◌≡◌};
 ghost use Rattle.format.specs.Numbers.{Byte};
-ghost use Rattle.format.specs.Format.{mark, in_place_of, kind_mark, kind_from};
+ghost use Rattle.format.specs.Format.{mark, size, in_place_of, kind_mark, kind_from};
 ghost use Rattle.format.specs.Writing.{Identified};
 
 pub mod fields;
@@ -32,6 +32,18 @@ impl Mark {
             Mark::RH => *b"RH",
             Mark::LB => *b"LB",
             Mark::TK => *b"TK",
+        }
+    }
+
+    // How long the record is that the mark announces.
+    pub fn size(self) -> usize
+        ensures { result ≡ size self }
+    {
+        match self {
+            Mark::PL => table::PL_SIZE,
+            Mark::RS | Mark::RH => table::RS_SIZE,
+            Mark::LB => table::LB_SIZE,
+            Mark::TK => table::TK_SIZE,
         }
     }
 

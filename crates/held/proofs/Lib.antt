@@ -1,4 +1,4 @@
--- Laws of the held span: its days, what its keys add up to, where they lie, and the loop that finds it.
+-- Laws of the held span: its days, what its keys add up to, and where they lie.
 pub mod Spans
 pub mod Adds
 pub mod Room

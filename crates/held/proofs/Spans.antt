@@ -2,11 +2,8 @@
 use mathlib.Core.Path.{◌≡◌, sym, ap, ap₂, ◌∙◌}
 use mathlib.Core.Bool.{true}
 use mathlib.Core.List.{List, [], ◌∷◌}
-use Prim.Native.Nat.{ℕ, ◌+◌, ◌≤◌, ◌<◌}
-use native.Mathlib.Numerals.{add-one}
+use Prim.Native.Nat.{ℕ}
 use lib.IntN.{ℤ}
-use lib.ListN.{length, get_or, drop, drop_of_length-le}
-use lib.Seq.{drop-cons}
 use lib.Signed.{le_z, lt_z, ◌≤ℤ◌, ◌<ℤ◌}
 use Rattle.integers.specs.Tests.{and, or, any}
 use Rattle.integers.specs.Ends.{Within}
@@ -111,12 +108,3 @@ span_kept r e a b (also {x = t} {xs = ts} h bs) =
 
 pub span_bounded : (r : ℕ) (ts : List Task) → Each Bounded ts → SpanBounded (span_over r no_span ts)
 span_bounded r ts bs = span_kept r no_span (omega z) (omega z) bs
-
--- ---- the span, one task after another
-pub span_more : (r : ℕ) (d : Task) (e : Span Day) (i : ℕ) (ts : List Task) → i < length ts → span_over r (with_only r e (get_or ts i d)) (drop (i + 1) ts) ≡ span_over r e (drop i ts)
-unfolding span_over
-span_more r d e i ts h = rw (add-one, drop-cons ts i d h)
-
-pub span_end : (r : ℕ) (e : Span Day) (i : ℕ) (ts : List Task) → length ts ≤ i → span_over r e (drop i ts) ≡ e
-unfolding span_over
-span_end r e i ts h = rw (drop_of_length-le ts h)

@@ -1,6 +1,6 @@
 -- The days that count on a held resource are one span over the tasks that have only it: from the least origin high to one before the greatest
 -- end low. As events it is one change of the count.
-use Rattle.std.specs.Prelude.{Bool, List, [], ◌∷◌, ℕ, pos}
+use Rattle.std.specs.Prelude.{Bool, List, [], fold, ℕ, pos}
 use Rattle.std.specs.Int.Signed.{lt_z}
 use Rattle.integers.specs.Whole.{larger, smaller}
 use Rattle.integers.specs.Tests.{if, any}
@@ -27,8 +27,7 @@ with_only r e t =
     e
 
 unfoldable pub span_over : ℕ → Span Day → List Task → Span Day
-span_over r e [] = e
-span_over r e (t ∷ ts) = span_over r (with_only r e t) ts
+span_over r e ts = fold (with_only r) e ts
 
 -- no power, and one more that makes a day count
 abbrev pub span_change : Span Day → Change

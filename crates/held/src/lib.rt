@@ -33,19 +33,16 @@ fn with_only(e: Span<Day>, t: Task, r: u64) -> Span<Day>
 }
 
 // From the least origin high to the greatest end low; of no task the ends of days the other way round, so that the first task sets both.
-#[tactic(auto, using(crate::proofs::Spans::span_more, crate::proofs::Spans::span_end), unfolding(plan::specs::Tasks::no_task))]
+#[tactic(auto, unfolding(crate::specs::Held::span_over))]
 fn span_of(tasks: &[Task], r: u64) -> Span<Day>
     requires { r < set_bits }
     ensures { result ≡ span_over r no_span tasks.now }
 {
-    let mut e = Span {
+    let none = Span {
         low: Day::HIGH,
         high: Day::LOW,
     };
-    for t in tasks {
-        e = with_only(e, *t, r);
-    }
-    e
+    tasks.iter().copied().fold(none, |e, t| with_only(e, t, r))
 }
 
 // No power, and each day of the span counts.

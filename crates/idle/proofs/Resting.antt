@@ -5,12 +5,9 @@ use Rattle.plan.specs.Refusals.{accepted}
 use mathlib.Core.Path.{◌≡◌, refl, ◌∙◌}
 use mathlib.Core.Bool.{true, false}
 use mathlib.Core.List.{List, [], ◌∷◌}
-use Prim.Native.Nat.{ℕ, ◌+◌, ◌≤◌, ◌<◌}
-use native.Mathlib.Numerals.{add-one}
+use Prim.Native.Nat.{ℕ}
 use lib.IntN.{ℤ}
-use lib.ListN.{length, get_or, drop, drop_of_length-le}
-use lib.Seq.{drop-cons}
-use Rattle.integers.specs.Tests.{if, any}
+use Rattle.integers.specs.Tests.{any}
 use Rattle.integers.specs.Lists.{Each}
 use Rattle.integers.specs.Lists.Each.{nothing, also}
 use Rattle.integers.proofs.Tests.{clash, by_cases, any_none}
@@ -40,10 +37,12 @@ resting_from : (r m : ℕ) (ts : List Task) → has (lively_places m ts) r ≡ f
 unfolding lively_places
 resting_from r m [] h = (h, nothing)
 resting_from r m (t ∷ ts) h =
-    let e = resting_from r (if (lively t) (union m t.set) m) ts h in
     by_cases (lively t)
-    (λ q. let n = union_none m t.set r (rw q at e.0) in (n.0, also (λ v. n.1) e.1))
-    (λ q. (rw q at e.0, also (λ v. clash (lively t) v q) e.1))
+    (λ q.
+    let e = resting_from r (union m t.set) ts (rw q at h) in
+    let n = union_none m t.set r e.0 in
+    (n.0, also (λ v. n.1) e.1))
+    (λ q. let e = resting_from r m ts (rw q at h) in (e.0, also (λ v. clash (lively t) v q) e.1))
 
 module _ (r : ℕ) (limit : Floor) where
   -- none has only r, so no day counts
@@ -77,13 +76,3 @@ module _ (r : ℕ) (limit : Floor) where
 
 pub lively_idle : (f : Frame) → f.sense ≡ AtLeast → (ts : List Task) → check f ts ≡ accepted → Idle (lively_places 0 ts) f ts
 lively_idle f least ts a r h c = at_least_step_lem f least r ts ∙ resting_step r (floor_at f r) ts (resting_from r 0 ts c).1 (check_live f ts a)
-
--- ---- the places, one task after another
-pub places_more : (d : Task) (m i : ℕ) (ts : List Task) → i < length ts
-    → lively_places (if (lively (get_or ts i d)) (union m (get_or ts i d).set) m) (drop (i + 1) ts) ≡ lively_places m (drop i ts)
-unfolding lively_places
-places_more d m i ts h = rw (add-one, drop-cons ts i d h)
-
-pub places_end : (m i : ℕ) (ts : List Task) → length ts ≤ i → lively_places m (drop i ts) ≡ m
-unfolding lively_places
-places_end m i ts h = rw (drop_of_length-le ts h)

@@ -1,6 +1,6 @@
 -- The mask: a bit for each resource whose step may still change something. A bit that is clear saves a step and changes no answer.
-use Rattle.std.specs.Prelude.{◌≡◌, Bool, false, not, List, [], ◌∷◌, ℕ, ◌<◌, Option, IfSome}
-use Rattle.integers.specs.Tests.{if, or}
+use Rattle.std.specs.Prelude.{◌≡◌, Bool, false, not, List, filter, fold, ℕ, ◌<◌, Option, IfSome}
+use Rattle.integers.specs.Tests.{or}
 use Rattle.plan.specs.declared.Task.{Task}
 use Rattle.plan.specs.Sets.{has, union}
 use Rattle.rules.specs.Frame.{Frame, resource_count}
@@ -14,8 +14,7 @@ use Rattle.idle.specs.Lively.{lively}
 
 -- the places of the lively tasks, joined to m: at first only their resources can change something
 unfoldable pub lively_places : ℕ → List Task → ℕ
-lively_places m [] = m
-lively_places m (t ∷ ts) = lively_places (if (lively t) (union m t.set) m) ts
+lively_places m ts = fold (λ a t. union a t.set) m (filter lively ts)
 
 -- where the bit is clear, the step of that resource would change nothing now
 abbrev pub Idle : ℕ → Frame → List Task → Type 0

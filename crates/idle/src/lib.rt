@@ -2,7 +2,7 @@
 // part of any answer.
 #![tactic(auto)]
 
-ghost use Rattle.std.specs.Prelude.{◌≡◌, false, ◌-◌, ◌^◌};
+ghost use Rattle.std.specs.Prelude.{◌≡◌, false};
 ghost use Rattle.idle.specs.Lively.{lively};
 ghost use Rattle.idle.specs.Mask.{lively_places};
 
@@ -18,14 +18,12 @@ pub struct Passed {
 // Each resource may change something.
 pub const EVERY_PLACE: u64 = u64::MAX;
 
-// No step is taken yet.
-pub fn no_steps() -> Passed
-    ensures { (result.changed ≡ false) × (result.mask ≡ 2 ^ 64 - 1) }
-{
-    Passed {
+impl Passed {
+    // No step is taken yet.
+    pub const NONE: Passed = Passed {
         changed: false,
         mask: EVERY_PLACE,
-    }
+    };
 }
 
 // Whether the task can be sure, hold a day or be touched by a bar: it has a day on which it is under way wherever it starts, or one resource only.
@@ -37,15 +35,13 @@ pub fn is_lively(t: Task) -> bool
 }
 
 // The resources of the lively tasks: at first no other can change anything.
-#[tactic(auto, using(crate::proofs::Resting::places_end))]
+#[tactic(auto, unfolding(crate::specs::Mask::lively_places, plan::specs::Sets::union))]
 pub fn lively_places(tasks: &[Task]) -> u64
     ensures { result ≡ lively_places 0 tasks.now }
 {
-    let mut mask = 0;
-    for t in tasks {
-        if is_lively(*t) {
-            mask |= t.set;
-        }
-    }
-    mask
+    tasks
+        .iter()
+        .copied()
+        .filter(|t| is_lively(*t))
+        .fold(0, |mask, t| mask | t.set)
 }

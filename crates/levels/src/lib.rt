@@ -22,14 +22,16 @@ pub struct Levels {
     pub limit: Power,
 }
 
-// "Before a resource's first band its RS limit stands": no key, and its own limit on every day.
-pub fn own_limit(n: usize, x: Power) -> Levels
-    ensures { result ≡ own_limit n x }
-{
-    Levels {
-        events: n,
-        start: x,
-        limit: x,
+impl Levels {
+    // "Before a resource's first band its RS limit stands": no key, and its own limit on every day.
+    pub fn own(n: usize, x: Power) -> Levels
+        ensures { result ≡ own_limit n x }
+    {
+        Levels {
+            events: n,
+            start: x,
+            limit: x,
+        }
     }
 }
 
@@ -79,7 +81,7 @@ pub fn put_bands(
     ensures start_value { result.start ≡ power (limit_from r limit.0 bands.now low.0) }
     ensures events_bound { result.events ≤ n + length bands.now }
 {
-    let mut c = own_limit(n, limit);
+    let mut c = Levels::own(n, limit);
     for b in bands {
         c = put_band(keys, *b, r, low, high, c);
     }

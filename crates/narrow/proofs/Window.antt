@@ -7,6 +7,7 @@ use native.Mathlib.Omega.{arith}
 use lib.ListN.{length, take, drop, get_or, length-take, length-drop}
 use lib.Seq.{get_or-take, get_or-drop}
 use lib.IntN.{ℤ}
+use lib.Signed.{◌≤ℤ◌}
 use Rattle.std.specs.Prelude.{Ok}
 use Rattle.integers.specs.Tests.{any}
 use Rattle.integers.proofs.Z.{z}
@@ -21,12 +22,14 @@ use Rattle.stretches.specs.declared.Stretch.{Stretch}
 use Rattle.stretches.specs.View.{no_stretch, on_day}
 use Rattle.stretches.specs.Tells.{Quiet, Exact, Uncut, Ordered, Tells}
 use Rattle.stretches.proofs.View.{on_out}
-use Rattle.searches.proofs.Order.{below_cases, ordered_rest}
-use Rattle.narrow.specs.Window.{Over, Ahead}
+use Rattle.searches.specs.Searches.{Begun}
+use Rattle.searches.proofs.Order.{below_cases, ordered_rest, begun_past}
+use Rattle.narrow.specs.Ready.{possible_days}
+use Rattle.narrow.specs.Window.{Over, Ahead, Met}
 use Rattle.narrow.proofs.NarrowedTask.{quiet_page, quiet_off}
 
 -- ---- a part in order
-ordered_take : (n : ℕ) (ss : List Stretch) → Ordered ss → Ordered (take n ss)
+pub ordered_take : (n : ℕ) (ss : List Stretch) → Ordered ss → Ordered (take n ss)
 unfolding Ordered
 ordered_take zero ss h = tt
 ordered_take (suc n) [] h = tt
@@ -42,6 +45,12 @@ ordered_drop : (n : ℕ) (ss : List Stretch) → Ordered ss → Ordered (drop n 
 ordered_drop zero ss h = h
 ordered_drop (suc n) [] h = h
 ordered_drop (suc n) (s ∷ ss) h = ordered_drop n ss (ordered_rest s ss h)
+
+-- of the first b, all but the last of those that begin before day d are over by then
+pub over_part : (ss : List Stretch) (b n : ℕ) (d : ℤ) → Ordered ss → n ≤ length (take b ss) → Begun (take b ss) d n n → Over ss d (n - 1)
+over_part ss b n d o m g k l h =
+    let i : k < length (take b ss) = omega arith in
+    subst (λ (s : Stretch). s.to.0 ≤ℤ d) (get_or-take b ss k no_stretch (omega (arith, length-take b ss))) (begun_past (take b ss) d (ordered_take b ss o) n m g k l i)
 
 -- ---- the stretches outside a .. b - 1 hold no possible day of the task
 module _ (r : ℕ) (limit : Floor) (ts : List Task) (t : Task) (live : Live t) (ss : List Stretch) (tells : Tells r limit ts t ss)
@@ -62,33 +71,39 @@ module _ (r : ℕ) (limit : Floor) (ts : List Task) (t : Task) (live : Live t) (
       (λ c. below_cases p.at b (f p.at p.inside p.holds c) (λ d. let e = ahead p.at d p.inside in omega z)))))
       (λ g. tells.quiet i g)
 
-  pub part_tells : a ≤ b → b ≤ length ss → Tells r limit ts t (take (b - a) (drop a ss))
-  part_tells m n =
+  part_tells : Tells r limit ts t (drop a (take b ss))
+  part_tells =
       record {
-        ordered = ordered_take (b - a) (drop a ss) (ordered_drop a ss tells.ordered);
+        ordered = ordered_drop a (take b ss) (ordered_take b ss tells.ordered);
         exact = λ k l. subst (λ (s : Stretch). Exact r limit ts s) (sym (same k l)) (tells.exact (a + k) (inside k l));
         uncut = λ k l. subst (λ (s : Stretch). Uncut r t s) (sym (same k l)) (tells.uncut (a + k) (inside k l));
         quiet = λ i h. quiet_outside i (outside i h);
       }
     where
-      size : length (take (b - a) (drop a ss)) ≡ b - a
-      size = omega (arith, length-take (b - a) (drop a ss), length-drop a ss)
+      size : length (drop a (take b ss)) ≡ length (take b ss) - a
+      size = length-drop a (take b ss)
 
-      inside : (k : ℕ) → k < length (take (b - a) (drop a ss)) → a + k < length ss
-      inside k l = omega (arith, size)
+      inside : (k : ℕ) → k < length (drop a (take b ss)) → a + k < length ss
+      inside k l = omega (arith, size, length-take b ss)
 
-      same : (k : ℕ) → k < length (take (b - a) (drop a ss)) → get_or (take (b - a) (drop a ss)) k no_stretch ≡ get_or ss (a + k) no_stretch
-      same k l = get_or-take (b - a) (drop a ss) k no_stretch (omega (arith, size)) ∙ get_or-drop a ss k no_stretch
+      same : (k : ℕ) → k < length (drop a (take b ss)) → get_or (drop a (take b ss)) k no_stretch ≡ get_or ss (a + k) no_stretch
+      same k l = get_or-drop a (take b ss) k no_stretch ∙ get_or-take b ss (a + k) no_stretch (omega (arith, size, length-take b ss))
 
-      outside : (i : ℤ) → any (on_day i) (take (b - a) (drop a ss)) ≡ false → (k : ℕ) → k < length ss → on_day i (get_or ss k no_stretch) ≡ true → a ≤ k → k < b → ⊥
+      outside : (i : ℤ) → any (on_day i) (drop a (take b ss)) ≡ false → (k : ℕ) → k < length ss → on_day i (get_or ss k no_stretch) ≡ true → a ≤ k → k < b → ⊥
       outside i h k l o c d =
           let e : a + (k - a) ≡ k = omega arith in
-          let j : k - a < length (take (b - a) (drop a ss)) = omega (arith, size) in
-          clash (any (on_day i) (take (b - a) (drop a ss)))
-          (in_any (on_day i) (in_at no_stretch (k - a) (take (b - a) (drop a ss)) j)
+          let j : k - a < length (drop a (take b ss)) = omega (arith, size, length-take b ss) in
+          clash (any (on_day i) (drop a (take b ss)))
+          (in_any (on_day i) (in_at no_stretch (k - a) (drop a (take b ss)) j)
           (subst (λ (s : Stretch). on_day i s ≡ true) (sym (same (k - a) j ∙ ap (λ (n : ℕ). get_or ss n no_stretch) e)) o))
           h
 
-  -- no stretch is left: no rule touches the task
-  pub none_page : b ≤ a → Ok t ≡ narrowed r limit ts (listed_days ts) t
-  none_page m = quiet_page r limit ts t live (λ i. quiet_outside i (λ k l o c d. omega arith))
+-- so those that can meet its possible days tell of it what all tell
+pub met_tells : (r : ℕ) (limit : Floor) (ts : List Task) (t : Task) → Live t → (ss us : List Stretch) → Tells r limit ts t ss → Met ss (possible_days t) us → Tells r limit ts t us
+met_tells r limit ts t live ss us tells m = rw m.are (part_tells r limit ts t live ss tells m.from m.to m.over m.ahead)
+
+-- no stretch is left: no rule touches the task
+pub none_page : (r : ℕ) (limit : Floor) (ts : List Task) (t : Task) → Live t → (ss : List Stretch) → Tells r limit ts t ss → length ss ≡ 0 → Ok t ≡ narrowed r limit ts (listed_days ts) t
+none_page r limit ts t live ss tells e =
+    quiet_page r limit ts t live
+    (λ i. tells.quiet i (false_in (any (on_day i) ss) (λ g. let p = any_place (on_day i) no_stretch ss g in let l = p.inside in absurd (omega arith))))

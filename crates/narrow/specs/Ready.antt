@@ -23,7 +23,7 @@ use Rattle.stretches.specs.Tells.{Tells}
 use Rattle.stretches.specs.Asks.{bar_of}
 use Rattle.searches.specs.declared.Days.{Days}
 use Rattle.searches.specs.declared.Reach.{Reach}
-use Rattle.searches.specs.Searches.{needed_part, hit_days, Needed, Slack, Least}
+use Rattle.searches.specs.Searches.{needed_part, hit_days, Needed, Slack, Least, BothIn, days_in}
 
 -- a place of a set, and a task whose ranges lie within their ends
 pub record Ready (r : ℕ) (t : Task) : Type 0 where
@@ -75,6 +75,13 @@ NeedsTold t ss q = (i : ℤ) → q i ≡ and (lt_z (pos 0) t.height.high.0) (hit
 -- s runs from the first of them to past the last
 abbrev pub NeedsFound : Task → List Stretch → Days → Type 0
 NeedsFound t ss s = (q : ℤ → Bool) → NeedsTold t ss q → Needed q (possible_days t) s
+
+-- the task after the needs of all days
+pub record Joined (r : ℕ) (t : Task) (ss : List Stretch) (u : Task) : Type 0 where
+  pub days : Days
+  pub among : BothIn (days_in (possible_days t)) (days_in days)
+  pub found : NeedsFound t ss days
+  pub is : u ≡ with_needs r days t
 
 -- no possible day leaves the task less than it asks
 abbrev pub Free : Task → List Stretch → Type 0

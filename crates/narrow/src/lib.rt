@@ -4,16 +4,16 @@
 // early, so the two are not mixed. Cost: the stretches, once for each search; no loop runs over days.
 #![tactic(auto)]
 
-ghost use Rattle.std.specs.Prelude.{◌≡◌, true, false, ◌≤◌, ◌<◌, length, eqb};
+ghost use Rattle.std.specs.Prelude.{◌≡◌, true, false, ◌<◌, eqb};
 ghost use Rattle.plan.specs.Sets.{set_bits, has, only};
 ghost use Rattle.plan.specs.Tasks.{Bounded};
 ghost use Rattle.stretches.specs.Tells.{Ordered};
-ghost use Rattle.searches.specs.Searches.{BothIn, days_in, Dated};
-ghost use Rattle.narrow.specs.Ready.{Ready, HasDay, ByPage, NeedsFound, Free, Lifted, Still};
+ghost use Rattle.searches.specs.Searches.{BothIn, days_in};
+ghost use Rattle.narrow.specs.Ready.{Ready, HasDay, ByPage, NeedsFound, Joined, Free, Lifted, Still};
 ghost use Rattle.narrow.specs.Ready.{possible_days, running_days, reach_of, with_needs, without_here, finished};
-ghost use Rattle.narrow.specs.Window.{Over, Ahead};
+ghost use Rattle.narrow.specs.Window.{Met};
 
-use plan::{Day, Power, Span, Task, Value};
+use plan::{Power, Span, Task, Value};
 use searches::{Days, Reach};
 use stretches::Stretch;
 
@@ -49,60 +49,6 @@ fn reach_of(t: Task) -> Reach
     }
 }
 
-// From the first day on which the task is needed to past the last.
-fn needs_of(stretches: &[Stretch], t: Task) -> Days
-    requires { Dated (possible_days t) }
-    ensures { BothIn (days_in (possible_days t)) (days_in result) × NeedsFound t stretches.now result }
-{
-    let w = possible_days(t);
-    let high = t.height.high;
-    if Power(0) < high {
-        return searches::needed_days(stretches, w, high);
-    }
-    // "a task possible on i with positive highest height": any other is needed on no day.
-    Days {
-        from: w.to,
-        to: w.from,
-    }
-}
-
-// The needs of the days s joined.
-#[tactic(auto, unfolding(crate::specs::Ready::with_needs))]
-fn with_needs(t: Task, r: u64, s: Days) -> Task
-    requires { Ready r t × BothIn (days_in (possible_days t)) (days_in s) }
-    ensures { result ≡ with_needs r s t }
-{
-    // Only the first and the last day matter: what covers both with its longest duration covers every day between.
-    if s.from < t.end.high {
-        let longest = t.duration.high;
-        return Task {
-            set: 1 << r,
-            origin: t.origin.cut_to(s.to - longest, s.from),
-            end: t.end.cut_to(s.to, s.from + longest),
-            ..t
-        };
-    }
-    t
-}
-
-// "a task sure on i has height at least L - others": the highest height less the slack.
-fn lifted(stretches: &[Stretch], t: Task) -> Span<Power>
-    requires { Bounded t }
-    ensures { Lifted t stretches.now result }
-{
-    let Span { low, high } = t.height;
-    // With no shortfall a height of one value is enough on every sure day.
-    if high <= low {
-        return t.height;
-    }
-    // No other day asks for more than the lowest height, and with no shortfall no slack is below 0.
-    let slack = searches::least_slack(stretches, running_days(t), high - low);
-    Span {
-        low: high - slack.max(Power(0)),
-        high,
-    }
-}
-
 // The task, or the first of its values of which nothing is left. The height is never that value: the highest stays.
 #[tactic(auto, unfolding(crate::specs::Ready::finished))]
 fn finish(t: Task) -> Result<Task, Value>
@@ -123,63 +69,6 @@ fn finish(t: Task) -> Result<Task, Value>
     Ok(t)
 }
 
-// A task that is only here, some of whose days may be barred.
-fn narrow_barred(stretches: &[Stretch], t: Task, r: u64) -> Task
-    requires { Ready r t × HasDay t }
-    ensures { only t.set r ≡ true → ByPage r t stretches.now (finished result) }
-{
-    let x = reach_of(t);
-    let s = needs_of(stretches, t);
-    let u = with_needs(t, r, s);
-    let least = t.duration.low;
-    // "origins i - duration low + 1 .. i and ends i + 1 .. i + duration low are barred": an end less the least duration is an origin.
-    let origin = searches::free_span(stretches, x, least, u.origin);
-    Task {
-        origin,
-        duration: Span {
-            low: least,
-            high: searches::longest(stretches, x, t.duration.high),
-        },
-        end: searches::ends_after(stretches, x, least, u.end, u.origin, origin),
-        height: lifted(stretches, t),
-        ..u
-    }
-}
-
-// Whether no possible day leaves the task less than it asks: then none is barred.
-fn is_free(stretches: &[Stretch], t: Task) -> bool
-    requires { Bounded t }
-    ensures { result ≡ true → Free t stretches.now }
-{
-    let bar = stretches::bar_of(t);
-    bar <= searches::least_slack(stretches, possible_days(t), bar)
-}
-
-// A task that is only here and has no barred day: needs and its height are all that can change.
-fn narrow_free(stretches: &[Stretch], t: Task, r: u64) -> Task
-    requires { Ready r t × HasDay t }
-    ensures { only t.set r ≡ true → Free t stretches.now → ByPage r t stretches.now (finished result) }
-{
-    let s = needs_of(stretches, t);
-    let u = with_needs(t, r, s);
-    Task {
-        height: lifted(stretches, t),
-        ..u
-    }
-}
-
-// A task that is only here.
-fn narrow_only(stretches: &[Stretch], t: Task, r: u64) -> Task
-    requires { Ready r t × HasDay t }
-    ensures { only t.set r ≡ true → ByPage r t stretches.now (finished result) }
-{
-    if is_free(stretches, t) {
-        narrow_free(stretches, t, r)
-    } else {
-        narrow_barred(stretches, t, r)
-    }
-}
-
 // "r leaves its set"
 fn without_here(t: Task, r: u64) -> Task
     requires { r < set_bits }
@@ -191,71 +80,171 @@ fn without_here(t: Task, r: u64) -> Task
     }
 }
 
-// A task that may stand elsewhere too: bars take only this resource from it.
-fn narrow_shared(stretches: &[Stretch], t: Task, r: u64) -> Task
-    requires { Ready r t × HasDay t }
-    ensures { only t.set r ≡ false → has t.set r ≡ true → ByPage r t stretches.now (finished result) }
-{
-    let s = needs_of(stretches, t);
-    let u = with_needs(t, r, s);
-    let bar = stretches::bar_of(t);
-    // "If origin high <= i < end low, r leaves its set": one such day of too little slack is enough.
-    if searches::least_slack(stretches, running_days(t), bar) < bar {
-        without_here(u, r)
-    } else {
-        u
-    }
-}
-
-// A task that may stand here and has a possible day.
-fn narrow_here(stretches: &[Stretch], t: Task, r: u64) -> Result<Task, Value>
-    requires { Ready r t × HasDay t }
-    ensures { has t.set r ≡ true → ByPage r t stretches.now result }
-{
-    if plan::only_resource(t.set, r) {
-        finish(narrow_only(stretches, t, r))
-    } else {
-        finish(narrow_shared(stretches, t, r))
-    }
-}
-
 // Of fewer stretches than this all are taken: to search for those that a task can meet costs more than it saves.
 const WORTH_A_SEARCH: usize = 4;
 
-// A place before which every stretch is over by the day: that of the last that begins before it.
-fn first_met(stretches: &[Stretch], from: Day) -> usize
-    ensures { Ordered stretches.now → Over stretches.now from.0 result }
+// The stretches that can meet the days, where there are many: from the last that begins before them to the last that begins on one of them.
+fn met(stretches: &[Stretch], days: Days) -> &[Stretch]
+    ensures { Ordered stretches.now → Met stretches.now days result.now }
 {
     if stretches.len() < WORTH_A_SEARCH {
-        0
-    } else {
-        searches::begun(stretches, from).saturating_sub(1)
+        return stretches;
     }
+    let ahead = searches::begun(stretches, days.to);
+    let begun = &stretches[..ahead];
+    // All but the last of those that begin before the days are over by then.
+    let over = searches::begun(begun, days.from).saturating_sub(1);
+    &begun[over..]
 }
 
-// A place from which on every stretch begins on the day or later: that of the first that does.
-fn past_met(stretches: &[Stretch], to: Day) -> usize
-    ensures { (result ≤ length stretches.now) × (Ordered stretches.now → Ahead stretches.now to.0 result) }
-{
-    if stretches.len() < WORTH_A_SEARCH {
-        stretches.len()
-    } else {
-        searches::begun(stretches, to)
-    }
+// A task that has a possible day, against the stretches of resource r.
+#[derive(Clone, Copy)]
+struct Here<'a> {
+    stretches: &'a [Stretch],
+    t: Task,
+    r: u64,
+    ghost ready: { Ready r t },
+    ghost day: { HasDay t },
 }
 
-// Only the stretches that can meet the task's possible days, where there are many: from the last that begins before them to the last that
-// begins on one of them. On the days of any other the task is not possible, so that no rule speaks of it.
-fn narrow_window(stretches: &[Stretch], t: Task, r: u64) -> Result<Task, Value>
-    requires { Ready r t × HasDay t }
-    ensures { has t.set r ≡ true → ByPage r t stretches.now result }
-{
-    let a = first_met(stretches, t.origin.low);
-    let b = past_met(stretches, t.end.high);
-    if a < b {
-        narrow_here(&stretches[a..b], t, r)
-    } else {
-        Ok(t)
+impl<'a> Here<'a> {
+    // From the first day on which the task is needed to past the last.
+    fn needs(self) -> Days
+        ensures { BothIn (days_in (possible_days self.entry.t)) (days_in result) × NeedsFound self.entry.t self.entry.stretches.now result }
+    {
+        let w = possible_days(self.t);
+        let high = self.t.height.high;
+        if Power(0) < high {
+            return searches::needed_days(self.stretches, w, high);
+        }
+        // "a task possible on i with positive highest height": any other is needed on no day.
+        Days {
+            from: w.to,
+            to: w.from,
+        }
+    }
+
+    // The needs of the days s joined.
+    #[tactic(auto, unfolding(crate::specs::Ready::with_needs))]
+    fn with_needs(self, s: Days) -> Task
+        requires { BothIn (days_in (possible_days self.t)) (days_in s) }
+        ensures { result ≡ with_needs self.entry.r s self.entry.t }
+    {
+        let t = self.t;
+        // Only the first and the last day matter: what covers both with its longest duration covers every day between.
+        if s.from < t.end.high {
+            let longest = t.duration.high;
+            return Task {
+                set: 1 << self.r,
+                origin: t.origin.cut_to(s.to - longest, s.from),
+                end: t.end.cut_to(s.to, s.from + longest),
+                ..t
+            };
+        }
+        t
+    }
+
+    // Those of all days joined.
+    fn joined(self) -> Task
+        ensures { Joined self.entry.r self.entry.t self.entry.stretches.now result }
+    {
+        self.with_needs(self.needs())
+    }
+
+    // "a task sure on i has height at least L - others": the highest height less the slack.
+    fn lifted(self) -> Span<Power>
+        ensures { Lifted self.entry.t self.entry.stretches.now result }
+    {
+        let Span { low, high } = self.t.height;
+        // With no shortfall a height of one value is enough on every sure day.
+        if high <= low {
+            return self.t.height;
+        }
+        // No other day asks for more than the lowest height, and with no shortfall no slack is below 0.
+        let slack = searches::least_slack(self.stretches, running_days(self.t), high - low);
+        Span {
+            low: high - slack.max(Power(0)),
+            high,
+        }
+    }
+
+    // Where it is only here and some of its days may be barred.
+    fn barred(self) -> Task
+        ensures { only self.entry.t.set self.entry.r ≡ true → ByPage self.entry.r self.entry.t self.entry.stretches.now (finished result) }
+    {
+        let x = reach_of(self.t);
+        let u = self.joined();
+        let least = self.t.duration.low;
+        // "origins i - duration low + 1 .. i and ends i + 1 .. i + duration low are barred": an end less the least duration is an origin.
+        let origin = searches::free_span(self.stretches, x, least, u.origin);
+        Task {
+            origin,
+            duration: Span {
+                low: least,
+                high: searches::longest(self.stretches, x, self.t.duration.high),
+            },
+            end: searches::ends_after(self.stretches, x, least, u.end, u.origin, origin),
+            height: self.lifted(),
+            ..u
+        }
+    }
+
+    // Whether no possible day leaves the task less than it asks: then none is barred.
+    fn is_free(self) -> bool
+        ensures { result ≡ true → Free self.entry.t self.entry.stretches.now }
+    {
+        let bar = stretches::bar_of(self.t);
+        bar <= searches::least_slack(self.stretches, possible_days(self.t), bar)
+    }
+
+    // Where it is only here and has no barred day: needs and its height are all that can change.
+    fn free(self) -> Task
+        ensures { only self.entry.t.set self.entry.r ≡ true → Free self.entry.t self.entry.stretches.now → ByPage self.entry.r self.entry.t self.entry.stretches.now (finished result) }
+    {
+        Task {
+            height: self.lifted(),
+            ..self.joined()
+        }
+    }
+
+    // Where it is only here.
+    fn only(self) -> Task
+        ensures { only self.entry.t.set self.entry.r ≡ true → ByPage self.entry.r self.entry.t self.entry.stretches.now (finished result) }
+    {
+        if self.is_free() {
+            self.free()
+        } else {
+            self.barred()
+        }
+    }
+
+    // Where it may stand elsewhere too: bars take only this resource from it.
+    fn shared(self) -> Task
+        ensures { only self.entry.t.set self.entry.r ≡ false → has self.entry.t.set self.entry.r ≡ true → ByPage self.entry.r self.entry.t self.entry.stretches.now (finished result) }
+    {
+        let u = self.joined();
+        let bar = stretches::bar_of(self.t);
+        // "If origin high <= i < end low, r leaves its set": one such day of too little slack is enough.
+        if searches::least_slack(self.stretches, running_days(self.t), bar) < bar {
+            without_here(u, self.r)
+        } else {
+            u
+        }
+    }
+
+    // Where it may stand here.
+    fn narrowed(self) -> Result<Task, Value>
+        ensures { has self.entry.t.set self.entry.r ≡ true → ByPage self.entry.r self.entry.t self.entry.stretches.now result }
+    {
+        // No stretch, so no day of which a rule speaks.
+        if self.stretches.is_empty() {
+            return Ok(self.t);
+        }
+        if plan::only_resource(self.t.set, self.r) {
+            finish(self.only())
+        } else {
+            finish(self.shared())
+        }
     }
 }
 
@@ -279,7 +268,9 @@ pub fn narrow(stretches: &[Stretch], t: Task, r: u64) -> Result<Task, Value>
 {
     // No rule speaks of a task on a day on which it is not possible.
     if t.origin.low < t.end.high && plan::has_resource(t.set, r) && !is_still(t, r) {
-        narrow_window(stretches, t, r)
+        // Nor of one that meets none of its possible days.
+        let stretches = met(stretches, possible_days(t));
+        Here { stretches, t, r }.narrowed()
     } else {
         Ok(t)
     }

@@ -1,11 +1,8 @@
 // The planning program: a plan file on standard input, settled; its text on standard output.
 #![tactic(auto)]
 
-use report::MOST_READ;
+use report::{MOST_READ, TEXT_ROOM};
 use std::io;
-
-// Room for the longest text.
-const TEXT_ROOM: usize = 1 << 16;
 
 fn main(rt: HostRuntime) -> io::Result<()> {
     let mut file = [0u8; MOST_READ];

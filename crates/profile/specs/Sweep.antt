@@ -27,10 +27,10 @@ stretch_in a b v = record { from = day a; to = day b; slack = v.slack; tight = p
 
 -- it has a day, and some rule may touch some task on it
 unfoldable pub worth : Extremes → Stretch → Bool
-worth e t = and (lt_z t.from.0 t.to.0) (or (lt_z t.slack.0 e.bar.0) (lt_z t.tight.0 e.lift.0))
+worth e s = and (lt_z s.from.0 s.to.0) (or (lt_z s.slack.0 e.bar.0) (lt_z s.tight.0 e.lift.0))
 
 abbrev pub worthy : Extremes → Stretch → List Stretch
-worthy e t = if (worth e t) (t ∷ []) []
+worthy e s = if (worth e s) (s ∷ []) []
 
 -- from a day on, with what has been added up by then
 unfoldable pub swept : Extremes → ℤ → Level → List ℕ → List Stretch

@@ -50,58 +50,62 @@ pub struct Level {
     pub sure: Count,
 }
 
-#[tactic(auto, unfolding(crate::specs::Sweep::changed))]
-fn changed(v: Level, k: u64) -> Level
-    requires { SFits w64 (v.slack.0 +ℤ power_of k) × SFits w64 (v.sure.0 +ℤ sure_of k) }
-    ensures { result ≡ changed v k }
-{
-    Level {
-        slack: v.slack + events::power_of(k),
-        sure: v.sure + events::sure_of(k),
+impl Level {
+    // with the event of a key more
+    #[tactic(auto, unfolding(crate::specs::Sweep::changed))]
+    fn after(self, k: u64) -> Level
+        requires { SFits w64 (self.slack.0 +ℤ power_of k) × SFits w64 (self.sure.0 +ℤ sure_of k) }
+        ensures { result ≡ changed self k }
+    {
+        Level {
+            slack: self.slack + events::power_of(k),
+            sure: self.sure + events::sure_of(k),
+        }
     }
-}
 
-#[tactic(auto, unfolding(crate::specs::Sweep::tight_in))]
-fn tight_in(v: Level) -> Power
-    ensures { result ≡ power (tight_in v) }
-{
-    if Count(0) < v.sure {
-        v.slack
-    } else {
-        stretches::BIG
+    // the slack where the days count, else more than any slack
+    #[tactic(auto, unfolding(crate::specs::Sweep::tight_in))]
+    fn tight(self) -> Power
+        ensures { result ≡ power (tight_in self) }
+    {
+        if Count(0) < self.sure {
+            self.slack
+        } else {
+            stretches::BIG
+        }
     }
-}
 
-#[tactic(auto, unfolding(crate::specs::Sweep::stretch_in))]
-fn stretch_in(from: Day, to: Day, v: Level) -> Stretch
-    ensures { result ≡ stretch_in from.0 to.0 v }
-{
-    Stretch {
-        from,
-        to,
-        slack: v.slack,
-        tight: tight_in(v),
+    #[tactic(auto, unfolding(crate::specs::Sweep::stretch_in))]
+    fn stretch(self, from: Day, to: Day) -> Stretch
+        ensures { result ≡ stretch_in from.0 to.0 self }
+    {
+        Stretch {
+            from,
+            to,
+            slack: self.slack,
+            tight: self.tight(),
+        }
     }
 }
 
 // Whether it has a day, and some rule may touch some task on it: that asks for more slack than it has, or for more where a day counts.
 #[tactic(auto, unfolding(crate::specs::Sweep::worth))]
-fn is_worth(t: Stretch, e: Extremes) -> bool
-    ensures { result ≡ worth e t }
+fn is_worth(s: Stretch, e: Extremes) -> bool
+    ensures { result ≡ worth e s }
 {
-    t.from < t.to && (t.slack < e.bar || t.tight < e.lift)
+    s.from < s.to && (s.slack < e.bar || s.tight < e.lift)
 }
 
 // the stretch, where it is worth it, behind the first n
 #[tactic(auto, using(events::proofs::Laid::laid_none, events::proofs::Laid::laid_one))]
-fn put_worthy(stretches: &mut [Stretch], n: usize, t: Stretch, e: Extremes) -> usize
+fn put_worthy(stretches: &mut [Stretch], n: usize, s: Stretch, e: Extremes) -> usize
     requires { n < length stretches.old }
-    ensures { Laid stretches.old stretches.new n result (worthy e t) }
+    ensures { Laid stretches.old stretches.new n result (worthy e s) }
 {
-    if !is_worth(t, e) {
+    if !is_worth(s, e) {
         return n;
     }
-    stretches[n] = t;
+    stretches[n] = s;
     n + 1
 }
 
@@ -120,11 +124,11 @@ fn sweep(keys: &[u64], start: Power, e: Extremes, stretches: &mut [Stretch]) -> 
     let mut n = 0;
     for k in keys {
         let to = events::day_of(*k);
-        n = put_worthy(stretches, n, stretch_in(from, to, v), e);
+        n = put_worthy(stretches, n, v.stretch(from, to), e);
         from = to;
-        v = changed(v, *k);
+        v = v.after(*k);
     }
-    put_worthy(stretches, n, stretch_in(from, e.high, v), e)
+    put_worthy(stretches, n, v.stretch(from, e.high), e)
 }
 
 // the stretches that events make, in any order
@@ -151,7 +155,7 @@ pub struct Shortfall {
 fn first_short(stretches: &[Stretch]) -> Option<usize>
     ensures { result ≡ position falls_short stretches.now }
 {
-    stretches.iter().position(|t| t.tight < Power(0))
+    stretches.iter().position(|s| s.tight < Power(0))
 }
 
 // The keys of what is asked of r behind the first n: where it is held those of its span, then those of its bands; and its limit on the first day.

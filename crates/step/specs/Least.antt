@@ -1,5 +1,5 @@
 -- The least that all stretches leave, and whether a task asks for more.
-use Rattle.std.specs.Prelude.{Bool, List, ℕ, ◌<◌, length, get_or, ◌≤ℤ◌}
+use Rattle.std.specs.Prelude.{Bool, List, fold, ℕ, ◌<◌, length, get_or, ◌≤ℤ◌}
 use Rattle.std.specs.Int.Signed.{lt_z}
 use Rattle.integers.specs.Whole.{smaller}
 use Rattle.integers.specs.Tests.{and, or}
@@ -10,11 +10,16 @@ use Rattle.plan.specs.Sets.{has}
 use Rattle.stretches.specs.declared.Stretch.{Stretch}
 use Rattle.stretches.specs.View.{no_stretch}
 use Rattle.stretches.specs.Asks.{bar_of, lift_of}
+use Rattle.stretches.specs.Tells.{big}
 use Rattle.step.specs.declared.Least.{Least}
 use Rattle.idle.specs.Lively.{lively}
 
 abbrev pub lowered : Least → Stretch → Least
-lowered l t = record { slack = power (smaller l.slack.0 t.slack.0); tight = power (smaller l.tight.0 t.tight.0) }
+lowered l s = record { slack = power (smaller l.slack.0 s.slack.0); tight = power (smaller l.tight.0 s.tight.0) }
+
+-- of all stretches; where there is none it is more than any slack
+unfoldable pub least_of : List Stretch → Least
+least_of ss = fold lowered (record { slack = power big; tight = power big }) ss
 
 -- no stretch has less
 abbrev pub Under : Least → List Stretch → Type 0

@@ -14,7 +14,7 @@ ghost use Rattle.held.specs.Held.{room_if};
 ghost use Rattle.profile.specs.Lent.{Lent, Asks};
 ghost use Rattle.step.specs.Told.{EachByPage};
 ghost use Rattle.step.specs.Kept.{Kept};
-ghost use Rattle.step.specs.Least.{lowered, Under, can_be_barred, asks_more};
+ghost use Rattle.step.specs.Least.{lowered, least_of, can_be_barred, asks_more};
 
 use plan::{Band, Power, Resource, Task};
 use profile::Work;
@@ -29,27 +29,31 @@ pub struct Least {
     pub tight: Power,
 }
 
-fn lowered(l: Least, s: Stretch) -> Least
-    ensures { result ≡ lowered l s }
-{
-    Least {
-        slack: l.slack.min(s.slack),
-        tight: l.tight.min(s.tight),
+impl Least {
+    // with a stretch more
+    fn lowered(self, s: Stretch) -> Least
+        ensures { result ≡ lowered self s }
+    {
+        Least {
+            slack: self.slack.min(s.slack),
+            tight: self.tight.min(s.tight),
+        }
     }
-}
 
-fn least_of(stretches: &[Stretch]) -> Least
-    ensures { Under result stretches.now }
-{
-    let mut least = Least {
-        slack: stretches::BIG,
-        tight: stretches::BIG,
-    };
-    // What asks for no more than the least asks for no more than any.
-    for s in stretches {
-        least = lowered(least, *s);
+    // of all stretches: what asks for no more than the least asks for no more than any
+    #[tactic(auto, unfolding(crate::specs::Least::least_of))]
+    fn of(stretches: &[Stretch]) -> Least
+        ensures { result ≡ least_of stretches.now }
+    {
+        let none = Least {
+            slack: stretches::BIG,
+            tight: stretches::BIG,
+        };
+        stretches
+            .iter()
+            .copied()
+            .fold(none, |least, s| least.lowered(s))
     }
-    least
 }
 
 // Whether a bar could touch the task where the slack is so low.
@@ -79,7 +83,7 @@ fn narrow_all(tasks: &mut [Task], r: u64, stretches: &[Stretch]) -> Option<u64>
     ensures outcome { EachByPage r tasks.old stretches.now (outcome_of result tasks.new) }
     ensures noted { Notes result tasks.old tasks.new }
 {
-    let least = least_of(stretches);
+    let least = Least::of(stretches);
     let mut touched = 0;
     for t in tasks.iter_mut() {
         if asks_more(t, r, least) {

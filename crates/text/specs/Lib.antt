@@ -1,2 +1,3 @@
--- The planning program's text.
+-- The planning program's text, and how it is put.
 pub mod Text
+pub mod Puts

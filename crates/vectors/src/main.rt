@@ -5,16 +5,11 @@
 ghost use Rattle.std.specs.Prelude.{◌≤◌, length};
 ghost use Rattle.std.specs.Io.{ReadsAtMost};
 
-use report::MOST_READ;
+use report::{MOST_READ, TEXT_ROOM};
 use std::io;
 use std::io::Read;
 
 pub const LENGTH_SIZE: usize = 4;
-
-// Room for the longest file and for the longest text.
-const FILE_ROOM: usize = 1 << 16;
-
-const TEXT_ROOM: usize = 1 << 16;
 
 // The next file's length, or none where the stream ends.
 fn next_length(from: &mut impl Read) -> io::Result<Option<usize>> {
@@ -42,7 +37,7 @@ fn answer_next(rt: &impl Print, from: &mut impl Read) -> io::Result<bool> {
     if MOST_READ < length {
         return Ok(false);
     }
-    let mut file = [0; FILE_ROOM];
+    let mut file = [0; MOST_READ];
     let n = read_file(from, length, &mut file)?;
     let mut out = [0; TEXT_ROOM];
     let r = report::report(&file[..n], &mut out);

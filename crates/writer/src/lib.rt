@@ -1,13 +1,14 @@
 // A plan's bytes, stored record after record, and whether a buffer has room for them.
 #![tactic(auto)]
 
-ghost use Rattle.std.specs.Prelude.{◌≡◌, refl, ℕ, ◌+◌, ◌*◌, ◌≤◌, length};
+ghost use Rattle.std.specs.Prelude.{◌≡◌, refl, ◌+◌, ◌*◌, ◌≤◌, length};
 ghost use Rattle.std.proofs.lemmas.List.Edits.{sets};
 ghost use Rattle.integers.specs.Lists.{Each};
 ghost use Rattle.plan.specs.Refusals.{accepted};
 ghost use Rattle.plan.specs.Tasks.{most_resources, most_bands, most_tasks};
 ghost use Rattle.rules.specs.Frame.{framed};
 ghost use Rattle.rules.specs.Calls.{check};
+ghost use Rattle.format.specs.declared.Mark.{Mark};
 ghost use Rattle.format.specs.declared.Mark.TheVariants.{PL, RS, LB, TK};
 ghost use Rattle.format.specs.Format.{Layout, mark, mark_size, size, record_bytes, header_numbers, resources, bands, tasks, file_length};
 ghost use Rattle.format.specs.Writing.{records_bytes, Even, written, laid, Limited, BandSmall, TaskSmall, room_for};
@@ -49,33 +50,33 @@ fn put_header(out: &mut [u8], h: Header)
     put_two(out, table::TASK_COUNT, h.tasks as u32);
 }
 
-// What stands in a file record after record: how it is laid out, what its fields hold of it, and how many bytes each takes.
-trait Record: Copy {
+// What stands in a file record after record: how it is laid out, what its fields hold of it, and the mark that is due where one is read.
+trait Stored: Copy {
     ghost layout: { Layout Self };
 
     ghost Small: { Self → Type 0 };
 
-    ghost SIZE: { ℕ };
+    ghost DUE: { Mark };
 
-    const SIZE: usize;
+    const DUE: Mark;
 
     fn put(self, out: &mut [u8], at: usize)
-        requires { (at + SIZE ≤ length out.old) × Small self }
+        requires { (at + size layout.due ≤ length out.old) × Small self }
         ensures { out.new ≡ sets out.old at (record_bytes (layout.mark self) (layout.numbers self)) };
 
-    ghost sized: { SIZE ≡ size layout.due };
+    ghost due: { DUE ≡ layout.due };
 
     ghost even: { Even layout };
 }
 
-impl Record for Resource {
+impl Stored for Resource {
     ghost layout = { resources };
 
     ghost Small = { Limited };
 
-    ghost SIZE = { size RS };
+    ghost DUE = { RS };
 
-    const SIZE: usize = table::RS_SIZE;
+    const DUE: Mark = Mark::RS;
 
     #[tactic(auto, using(crate::proofs::Resources::either_stored), unfolding(format::specs::Format::resource_numbers))]
     fn put(self, out: &mut [u8], at: usize) {
@@ -84,19 +85,19 @@ impl Record for Resource {
         put_signed(out, at + table::LIMIT, self.limit.0);
     }
 
-    ghost sized = { refl };
+    ghost due = { refl };
 
     ghost even = { length_one resources_lawful };
 }
 
-impl Record for Band {
+impl Stored for Band {
     ghost layout = { bands };
 
     ghost Small = { BandSmall };
 
-    ghost SIZE = { size LB };
+    ghost DUE = { LB };
 
-    const SIZE: usize = table::LB_SIZE;
+    const DUE: Mark = Mark::LB;
 
     #[tactic(auto, using(format::proofs::Stores::record_stored), unfolding(format::specs::Format::band_numbers))]
     fn put(self, out: &mut [u8], at: usize) {
@@ -106,19 +107,19 @@ impl Record for Band {
         put_signed(out, at + table::BAND_LIMIT, self.limit.0);
     }
 
-    ghost sized = { refl };
+    ghost due = { refl };
 
     ghost even = { length_one bands_lawful };
 }
 
-impl Record for Task {
+impl Stored for Task {
     ghost layout = { tasks 0 };
 
     ghost Small = { TaskSmall };
 
-    ghost SIZE = { size TK };
+    ghost DUE = { TK };
 
-    const SIZE: usize = table::TK_SIZE;
+    const DUE: Mark = Mark::TK;
 
     #[tactic(auto, using(format::proofs::Stores::record_stored), unfolding(format::specs::Format::task_numbers))]
     fn put(self, out: &mut [u8], at: usize) {
@@ -130,20 +131,21 @@ impl Record for Task {
         put_span(out, at + table::HEIGHT, self.height);
     }
 
-    ghost sized = { refl };
+    ghost due = { refl };
 
     ghost even = { length_one (tasks_lawful 0) };
 }
 
 // The records of a list, one after another from a place on.
-fn put_records<R: Record>(out: &mut [u8], from: usize, list: &[R])
-    requires { (from + length list.now * R.SIZE ≤ length out.old) × Each R.Small list.now }
+fn put_records<R: Stored>(out: &mut [u8], from: usize, list: &[R])
+    requires { (from + length list.now * size R.layout.due ≤ length out.old) × Each R.Small list.now }
     ensures { out.new ≡ sets out.old from (records_bytes R.layout list.now) }
 {
+    let size = R::DUE.size();
     let mut at = from;
     for x in list {
         x.put(out, at);
-        at += R::SIZE;
+        at += size;
     }
 }
 

@@ -24,7 +24,7 @@ balance-requires c =
 
 pub resource_step-requires-clause-idle : goal.resource_step-requires-clause-idle
 resource_step-requires-clause-idle c =
-    rw c.no_steps.ensures.1 (all_idle (framed AtLeast c.args.resources.now c.args.bands.now) c.args.tasks.now c.requires.1.accepted)
+    all_idle (framed AtLeast c.args.resources.now c.args.bands.now) c.args.tasks.now c.requires.1.accepted
 
 pub pass-requires-clause-idle : goal.pass-requires-clause-idle
 pass-requires-clause-idle c = all_idle (framed AtLeast c.args.resources.now c.args.bands.now) c.args.tasks.now c.requires.1.accepted

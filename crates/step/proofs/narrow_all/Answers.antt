@@ -2,6 +2,7 @@
 use native.Mathlib.Omega.{arith}
 use mathlib.Core.Path.{sym, ◌∙◌}
 use Rattle.plan.specs.Tasks.{no_task}
+use Rattle.step.proofs.Under.{least_under}
 use Rattle.step.proofs.Narrowing.{narrowing_start, next_fits, narrowing_kept, narrowing_same, narrowing_out, narrowing_end}
 use Rattle.step.proofs.narrow_all.Goals.{then-asks_more+in_ok-u, else-asks_more}
 use Rattle.step.proofs.narrow_all.Goals as goal
@@ -45,7 +46,7 @@ loop-t-preserved c =
       | else-asks_more w ↦
           rw (w.tasks-is, w.touched-is)
           (narrowing_same c.args.r c.args.stretches.now c.args.tasks.now c.requires.1 l.t-index l.tasks l.touched l.invariant (omega arith)
-          c.least_of-least.result c.least_of-least.ensures (sym c.asks_more.ensures ∙ w.if-asks_more.false))
+          c.of-least.result (rw c.of-least.ensures (least_under c.args.stretches.now)) (sym c.asks_more.ensures ∙ w.if-asks_more.false))
     ]
 
 pub returns-clause-outcome : goal.returns-clause-outcome
