@@ -1,2 +1,3 @@
--- How far the check has come.
+-- How far the check has come, and that the first 64 bands and the number of all tell what it answers.
 pub mod Checks
+pub mod Firsts

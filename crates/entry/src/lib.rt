@@ -6,10 +6,12 @@ ghost use Rattle.std.specs.List.{IsAllAdjacentAnswer};
 ghost use Rattle.plan.specs.declared.Sense.{Sense};
 ghost use Rattle.rules.specs.Frame.{framed};
 ghost use Rattle.rules.specs.Calls.{repeats, limits, ranges_fit, set_fits, tasks_fit, check};
-ghost use Rattle.entry.specs.Checks.{below_id, is_among};
+ghost use Rattle.entry.specs.Checks.{below_id, is_among, ChecksHeld};
 
 use bands::{check_bands, lies_within};
-use plan::{Band, Day, MOST_RESOURCES, MOST_TASKS, Power, Refusal, Resource, SET_BITS, Task};
+use plan::{
+    Band, Day, MOST_BANDS, MOST_RESOURCES, MOST_TASKS, Power, Refusal, Resource, SET_BITS, Task,
+};
 
 // Whether one of these resources has the identifier.
 fn is_among(id: i32, resources: &[Resource]) -> bool
@@ -105,4 +107,31 @@ pub fn check(resources: &[Resource], bands: &[Band], tasks: &[Task]) -> Result<(
     check_limits(resources)?;
     check_bands(bands, resources.len())?;
     check_tasks(tasks, resources.len() as u64)
+}
+
+// Lists of so many tasks, resources and bands, of which the first places are held: resources and tasks whole where there are not too many, and the
+// first 64 bands. 1 and 2 need no list; where these pass, a 65th band is what may be left to refuse.
+pub fn check_lists(
+    tasks_count: usize,
+    resources_count: usize,
+    bands_count: usize,
+    resources: &[Resource],
+    bands: &[Band],
+    tasks: &[Task],
+) -> Result<(), Refusal>
+    ensures { ChecksHeld resources_count bands_count tasks_count resources.now bands.now tasks.now result }
+{
+    if MOST_TASKS < tasks_count {
+        return Err(Refusal::TooManyTasks);
+    }
+    if resources_count == 0 || MOST_RESOURCES < resources_count {
+        return Err(Refusal::ResourceCount);
+    }
+    if MOST_BANDS < bands_count {
+        check_identifiers(resources)?;
+        check_limits(resources)?;
+        check_bands(bands, resources.len())?;
+        return Err(Refusal::BandOutside(MOST_BANDS));
+    }
+    check(resources, bands, tasks)
 }

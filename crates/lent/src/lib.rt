@@ -26,7 +26,7 @@ pub fn write(
 }
 
 // "On success the reader writes the first places only and later ones stay."
-fn store<T: Copy>(list: &mut [T], first: &[T])
+pub fn store<T: Copy>(list: &mut [T], first: &[T])
     requires { length first.now ≤ length list.old }
     ensures { list.new ≡ first.now ++ drop (length first.now) list.old }
 {

@@ -152,7 +152,7 @@ pub struct Shortfall {
 
 // The first stretch whose days count and on which all hopes together are below the limit: tight is the slack where a day counts, and BIG elsewhere,
 // and a day that was left out has no shortfall.
-fn first_short(stretches: &[Stretch]) -> Option<usize>
+pub fn first_short(stretches: &[Stretch]) -> Option<usize>
     ensures { result ≡ position falls_short stretches.now }
 {
     stretches.iter().position(|s| s.tight < Power(0))
