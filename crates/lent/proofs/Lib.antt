@@ -1,2 +1,3 @@
--- A law of the two calls: that a contract admits one result.
+-- Laws of the two calls: that a contract admits one result, and what writing refuses.
 pub mod Unique
+pub mod Writing
