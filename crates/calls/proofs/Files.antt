@@ -1,23 +1,25 @@
 -- A call on a plan file: each refusal in its turn; which arrays are enough.
-use mathlib.Core.Path.{◌≡◌, sym, ap, ◌∙◌}
+use Rattle.std.specs.Prelude.{Ok, Err}
+use mathlib.Core.Path.{◌≡◌, refl, sym, ap, ◌∙◌}
 use mathlib.Core.Bool.{Bool, true, false, not}
 use mathlib.Core.List.{List}
 use Prim.Native.Nat.{ℕ, suc, ◌+◌, ◌-◌, ◌*◌, ◌≤◌, ◌<◌}
 use native.Mathlib.Omega.{arith}
 use lib.Dec.{eqb, ltb}
-use lib.ListN.{drop}
+use lib.ListN.{length, drop}
 use lib.Seq.{drop-drop}
 use borrow.Author.Tests.{not-false, ltb-true, ltb-false}
 use Rattle.integers.specs.Tests.{and, or, any}
 use Rattle.integers.proofs.Tests.{clash, by_cases, or_none}
 use Rattle.plan.specs.declared.Call.{Call}
+use Rattle.plan.specs.declared.Refusal.{Refusal}
 use Rattle.plan.specs.declared.Refusal.TheVariants.{NoSuchResource}
 use Rattle.plan.specs.declared.Task.{Task}
-use Rattle.plan.specs.Refusals.{accepted}
+use Rattle.plan.specs.Refusals.{Answer, Checked, accepted}
 use Rattle.plan.specs.Tasks.{most_bands}
 use Rattle.plan.proofs.Sets.{eqb_in, eqb_true}
-use Rattle.rules.specs.Frame.{Frame, is_held}
-use Rattle.rules.specs.Calls.{placed_in}
+use Rattle.rules.specs.Frame.{Frame, resource_count, is_held}
+use Rattle.rules.specs.Calls.{placed_in, call_of, result_of}
 use Rattle.rules.proofs.Checks.{past}
 use Rattle.events.specs.Events.{events_a_task}
 use Rattle.held.specs.Held.{room_if, some_held}
@@ -27,10 +29,10 @@ use Rattle.format.specs.declared.Header.{Header}
 use Rattle.format.specs.declared.Mark.TheVariants.{RS, RH}
 use Rattle.format.specs.Format.{marked, due_in, kind_from, size, resources, resource_from, bands_from}
 use Rattle.format.specs.Reading.{Read, records_in, frame_in, tasks_in, body_due, read_body, read_after}
-use Rattle.format.specs.Writing.{room_for}
+use Rattle.format.specs.Writing.{written, room_for}
 use Rattle.format.proofs.Files.{read_is, after_is}
 use Rattle.runs.proofs.Rooms.{no_bands}
-use Rattle.answers.specs.Files.{lent_due}
+use Rattle.answers.specs.Files.{answer_file, lent_due, plan_call, plan_file, refused_file}
 use Rattle.calls.specs.Lists.{banded_in, held_in, fills_lists, asks_more}
 
 -- ---- each refusal in its turn
@@ -39,6 +41,22 @@ unfolding lent_due
 lent_is c resources file out h =
     let p = past (not (placed_in resources c)) NoSuchResource (room_for file out) h in
     (not-false (placed_in resources c) p.0, p.1)
+
+module _ (c : Call) (f : Frame) (ts : List Task) (out : List ℕ) where
+  abbrev due : Checked
+  due = lent_due c (resource_count f) (length (written f ts)) (length out)
+
+  pub plan_unlent : (e : Refusal) → due ≡ Err e → plan_file c f ts out ≡ refused_file e out
+  unfolding plan_call
+  plan_unlent e h = rw h
+
+  pub plan_lent : due ≡ accepted → (a : Answer) (us : List Task) → result_of a ts us ≡ call_of c f ts → plan_file c f ts out ≡ answer_file f out a us
+  unfolding plan_call
+  plan_lent h a us e = rw (h, sym e) (told a)
+    where
+      told : (a : Answer) → answer_file f out (result_of a ts us).answer (result_of a ts us).tasks ≡ answer_file f out a us
+      told (Ok n) = refl
+      told (Err e) = refl
 
 -- ---- no band follows the resources
 -- so what is read does not depend on the places for bands

@@ -1,7 +1,7 @@
 -- What is due, told from what the reader hands out: one law for every mark.
 use Rattle.std.specs.Prelude.{Err}
 use Rattle.plan.specs.Refusals.{Checked, accepted}
-use mathlib.Core.Path.{◌≡◌, refl, sym, ap, ◌∙◌}
+use mathlib.Core.Path.{◌≡◌, refl, sym, ap, subst, ◌∙◌}
 use mathlib.Core.Bool.{true, false}
 use mathlib.Core.List.{List, [], ◌∷◌}
 use Prim.Native.Nat.{ℕ, ◌+◌, ◌≤◌, ◌<◌}
@@ -26,7 +26,7 @@ use Rattle.rules.specs.Calls.{refuse_if}
 use Rattle.format.specs.declared.Mark.{Mark}
 use Rattle.format.specs.declared.Mark.TheVariants.{PL, RS, RH, LB, TK}
 use Rattle.format.specs.declared.Header.{Header}
-use Rattle.format.specs.Format.{mark, mark_size, marked, in_place_of, due_in, kind_mark, resource_mark, size, numbers_in, header_from, resource_from, band_from, task_from}
+use Rattle.format.specs.Format.{mark, mark_size, marked, in_place_of, due_in, kind_mark, kind_from, resource_mark, size, numbers_in, header_from, resource_from, band_from, task_from}
 use Rattle.format.specs.Reading.{due}
 use Rattle.format.proofs.Records.{due_is, due_alone}
 use Rattle.cursor.specs.declared.Record.{Record}
@@ -76,6 +76,15 @@ unfolding due_in
 stands_for_lem j k bs m =
     rw (stands j (in_place_of k) bs m) (stands j (if (same_mark j (in_place_of k)) (in_place_of k) k) bs m)
 
+-- a mark stands for another by the one in its place, or by itself
+pub place_stands : (j k : Mark) → same_mark j (in_place_of k) ≡ true → stands_for j k ≡ true
+unfolding due_in
+place_stands j k e = rw e e
+
+pub own_stands : (j k : Mark) → same_mark j (in_place_of k) ≡ false → stands_for j k ≡ same_mark j k
+unfolding due_in
+own_stands j k e = rw e
+
 -- the test of two marks in code is that one
 same_told : (j k : Mark) → sameb the_type j k ≡ same_mark j k
 same_told j k =
@@ -83,12 +92,11 @@ same_told j k =
     (λ e. true_same the_type j k (one_mark j k e) ∙ sym e)
     (λ e. false_same the_type tt j k (λ g. clash (same_mark j k) (ap (same_mark j) (sym g) ∙ self j) e) ∙ sym e)
 
--- a mark stands for another by being the one in its place, or that one
+-- both as the code tests them
 pub stands_either : (j k : Mark) → stands_for j k ≡ or (sameb the_type j (in_place_of k)) (sameb the_type j k)
-unfolding due_in
 stands_either j k =
     rw (same_told j (in_place_of k), same_told j k)
-    (by_cases (same_mark j (in_place_of k)) (λ e. rw (e, e)) (λ e. rw e))
+    (by_cases (same_mark j (in_place_of k)) (λ e. place_stands j k e ∙ rw e) (λ e. own_stands j k e ∙ rw e))
 
 pub handed_marked : (k : Mark) (at : ℕ) (bs : List ℕ) → mark_size ≤ length bs → marked k bs ≡ true → handed at bs ≡ record_of k at bs
 unfolding handed
@@ -108,10 +116,14 @@ short_unmarked k [] h = rw (second_some k) (and_off (eqb 0 (get_or (mark k) 0 0)
 short_unmarked k (a ∷ []) h = rw (second_some k) (and_off (eqb a (get_or (mark k) 0 0)))
 short_unmarked k (a ∷ b ∷ bs) h = absurd (not-suc-le-zero (le_of_suc-le-suc (le_of_suc-le-suc h)))
 
+pub mark_told : (k : Mark) (bs : List ℕ) → if (ltb (length bs) mark_size) false (marked k bs) ≡ marked k bs
+mark_told k bs =
+    by_cases (ltb (length bs) mark_size) (λ e. rw (e, short_unmarked k bs (ltb-true (length bs) mark_size e))) (λ e. rw e)
+
 pub handed_due : (k : Mark) (at : ℕ) (bs : List ℕ) → marked k bs ≡ true → handed at bs ≡ record_of k at bs
 handed_due k at bs m =
     by_cases (ltb (length bs) mark_size)
-    (λ e. clash (marked k bs) m (short_unmarked k bs (ltb-true (length bs) mark_size e)))
+    (λ e. clash (marked k bs) m (sym (mark_told k bs) ∙ rw e))
     (λ e. handed_marked k at bs (ltb-false (length bs) mark_size e) m)
 
 -- the first of some marks that stands there
@@ -127,6 +139,19 @@ handed_first k at bs js e = handed_due k at bs (first_stands bs js e)
 
 whole_record : (k : Mark) (at : ℕ) (bs : List ℕ) → size k ≤ length bs → record_of k at bs ≡ record_in k at bs
 whole_record k at bs h = rw (le-ltb (length bs) (size k) h)
+
+-- a resource's record, under the mark of either kind
+abbrev ResourceTold : ℕ → List ℕ → Mark → Type 0
+ResourceTold at bs k =
+    record_of k at bs ≡ if (ltb (length bs) (size RS)) (Record.CutShort k) (Record.Resource (resource_from k (numbers_in RS bs)) (at + size RS))
+
+kind_told : (x : Kind) (at : ℕ) (bs : List ℕ) → ResourceTold at bs (kind_mark x)
+unfolding numbers_in
+kind_told Plain at bs = refl
+kind_told Held at bs = refl
+
+pub resource_told : (k : Mark) → kind_mark (kind_from k) ≡ k → (at : ℕ) (bs : List ℕ) → ResourceTold at bs k
+resource_told k e at bs = subst (ResourceTold at bs) e (kind_told (kind_from k) at bs)
 
 -- ---- "each caller takes the record it is due and turns every other answer into the refusal"
 -- a whole record under such a mark
@@ -257,6 +282,16 @@ module _ (k : Mark) (at : ℕ) where
   not_mine (Record.CutShort j) n = refl
   not_mine Record.NoMark n = refl
   not_mine Record.Ended n = refl
+
+-- every answer but a whole record leaves the place
+pub stays_there : (at : ℕ) (r : Record) → Other PL r → Other RS r → Other LB r → Other TK r → at ≡ past_in at r
+stays_there at (Record.Plan h x) a b c d = absurd (a h x refl)
+stays_there at (Record.Resource q x) a b c d = absurd (b q x refl)
+stays_there at (Record.Band y x) a b c d = absurd (c y x refl)
+stays_there at (Record.Task t x) a b c d = absurd (d t x refl)
+stays_there at (Record.CutShort k) a b c d = refl
+stays_there at Record.NoMark a b c d = refl
+stays_there at Record.Ended a b c d = refl
 
 -- ---- an answer taken, and an answer refused
 kind_due : (x : Kind) (at : ℕ) → whole_due RS at (kind_mark x) ≡ accepted

@@ -1,10 +1,16 @@
--- Laws of numbers in bytes: so many bytes to a number and back, and the numbers of one, two and four bytes that stand at a place.
+-- Laws of numbers in bytes: so many bytes to a number and back, a number's low and high bytes apart, and the numbers of one, two and four bytes that
+-- stand at a place.
 use mathlib.Core.Path.{◌≡◌, refl, ap, subst, sym}
 use mathlib.Core.List.{List, [], ◌∷◌, ◌++◌}
 use Prim.Native.Nat.{ℕ, zero, suc, ◌+◌, ◌*◌, ◌/◌, ◌%◌, ◌≤◌, ◌<◌}
 use native.Mathlib.Omega.{arith}
-use native.Mathlib.Nat.{suc-add, div-div-eq-div-mul, not-suc-le-zero, le_of_suc-le-suc}
-use lib.ListN.{length, get_or, take, drop, take-append-drop}
+use native.Mathlib.Nat.{zero-add, suc-add, mul_assoc, div-one, div-div-eq-div-mul, not-suc-le-zero, le_of_suc-le-suc}
+use lib.IntN.{ℤ}
+use lib.ListN.{length, get_or, take, drop, length-drop, take-append-drop}
+use lib.Seq.{drop-drop}
+use mir.Syntax.{w32, w64}
+use mir.Val.{SFits, to_z, of_z}
+use mir.Facts.{to_z-of_z, sfits_widen}
 use Rattle.integers.specs.Lists.{Each}
 use Rattle.integers.specs.Lists.Each.{nothing, also}
 use Rattle.integers.proofs.Lists.{each_first, each_last}
@@ -49,40 +55,55 @@ unfolding number_of beyond
 number_small nothing = omega arith
 number_small (also l h) = omega (arith, number_small h)
 
--- ---- the bytes of one, two and four, each where it stands
-number_next : (w at j : ℕ) (b : List ℕ) → j ≡ at + 1 → at < length b → number_at b (suc w) at ≡ get_or b at 0 + 256 * number_at b w j
-unfolding number_of
-number_next w zero j [] e h = absurd (not-suc-le-zero h)
-number_next w (suc at) j [] e h = absurd (not-suc-le-zero h)
-number_next w zero j (x ∷ b) e h = rw e
-number_next w (suc at) j (x ∷ b) e h = rw (e, suc-add at 1) (number_next w at (at + 1) b refl (le_of_suc-le-suc h))
+-- ---- a number's low bytes and its high bytes
+number_parts : (m n : ℕ) (l : List ℕ) → m ≤ length l → number_of (take (m + n) l) ≡ number_of (take m l) + beyond m * number_of (take n (drop m l))
+unfolding number_of beyond
+number_parts zero n l h = rw (zero-add n) (omega arith)
+number_parts (suc m) n [] h = absurd (not-suc-le-zero h)
+number_parts (suc m) n (a ∷ l) h =
+    rw (suc-add m n, number_parts m n l (le_of_suc-le-suc h), mul_assoc 256 (beyond m) (number_of (take n (drop m l)))) (omega arith)
 
-number_none : (at : ℕ) (b : List ℕ) → number_at b 0 at ≡ 0
+pub number_split : (m n at : ℕ) (b : List ℕ) → at + m ≤ length b → number_at b (m + n) at ≡ number_at b m at + beyond m * number_at b n (at + m)
+number_split m n at b h = rw (← drop-drop m at b) (number_parts m n (drop at b) (omega (arith, length-drop at b)))
+
+pub bytes_split : (m n x : ℕ) → bytes_of (m + n) x ≡ bytes_of m x ++ bytes_of n (x / beyond m)
+unfolding bytes_of beyond
+bytes_split zero n x = rw (zero-add n, div-one x)
+bytes_split (suc m) n x =
+    rw (suc-add m n, bytes_split m n (x / 256), div-div-eq-div-mul x 256 (beyond m))
+
+-- ---- a signed number of four bytes as one of eight
+pub widened : (x : ℤ) → SFits w32 x → to_z w64 (of_z w64 (to_z w32 (of_z w32 x))) ≡ x
+widened x f = rw (to_z-of_z f) (to_z-of_z {w = w64} (sfits_widen {w = w32} {w' = w64} tt f))
+
+-- ---- the bytes of one, two and four, each where it stands
+-- past the end there stands 0
+pub number_one : (at : ℕ) (b : List ℕ) → get_or b at 0 ≡ number_at b 1 at
 unfolding number_of
-number_none at b = refl
+number_one zero [] = refl
+number_one (suc at) [] = refl
+number_one zero (x ∷ b) = omega arith
+number_one (suc at) (x ∷ b) = number_one at b
 
 module _ (at : ℕ) (b : List ℕ) where
-  pub number_one : at + 1 ≤ length b → get_or b at 0 ≡ number_at b 1 at
-  number_one h = omega (arith, number_next 0 at (at + 1) b refl (omega arith), number_none (at + 1) b)
-
   pub number_two : at + 2 ≤ length b → get_or b at 0 + get_or b (at + 1) 0 * 256 ≡ number_at b 2 at
-  number_two h =
-      omega (
-        arith,
-        number_next 1 at (at + 1) b refl (omega arith),
-        number_next 0 (at + 1) (at + 2) b (omega arith) (omega arith),
-        number_none (at + 2) b,
-      )
+  unfolding beyond
+  number_two h = omega (arith, number_split 1 1 at b (omega arith), number_one at b, number_one (at + 1) b)
 
   pub number_four : at + 4 ≤ length b → get_or b at 0 + get_or b (at + 1) 0 * 256 + get_or b (at + 2) 0 * 65536 + get_or b (at + 3) 0 * 16777216 ≡ number_at b 4 at
+  unfolding beyond
   number_four h =
+      let e : at + 2 + 1 ≡ at + 3 = omega arith in
+      let high = rw e at (number_split 1 1 (at + 2) b (omega arith)) in
       omega (
         arith,
-        number_next 3 at (at + 1) b refl (omega arith),
-        number_next 2 (at + 1) (at + 2) b (omega arith) (omega arith),
-        number_next 1 (at + 2) (at + 3) b (omega arith) (omega arith),
-        number_next 0 (at + 3) (at + 4) b (omega arith) (omega arith),
-        number_none (at + 4) b,
+        number_split 2 2 at b (omega arith),
+        number_split 1 1 at b (omega arith),
+        high,
+        number_one at b,
+        number_one (at + 1) b,
+        number_one (at + 2) b,
+        number_one (at + 3) b,
       )
 
 -- the low two bytes of a number

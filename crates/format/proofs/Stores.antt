@@ -2,7 +2,7 @@
 -- after field.
 use mathlib.Core.Path.{◌≡◌, refl, sym, ◌∙◌}
 use mathlib.Core.List.{List, [], ◌∷◌, ◌++◌, append_assoc}
-use Prim.Native.Nat.{ℕ, suc, ◌+◌, ◌≤◌}
+use Prim.Native.Nat.{ℕ, suc, ◌+◌, ◌/◌, ◌≤◌}
 use native.Mathlib.Omega.{arith}
 use native.Mathlib.Nat.{zero-add, add-zero, add-suc, suc-add, add_assoc}
 use lib.ListN.{length, take, drop, set}
@@ -13,7 +13,7 @@ use Rattle.format.specs.declared.Mark.TheVariants.{PL, RS, RH, LB, TK}
 use Rattle.format.specs.Numbers.{bytes_of}
 use Rattle.format.specs.Format.{mark, mark_size, widths, record_bytes, field_bytes}
 use Rattle.format.specs.Writing.{laid}
-use Rattle.format.proofs.Numbers.{length_bytes}
+use Rattle.format.proofs.Numbers.{beyond, length_bytes, bytes_split}
 
 module _ {A : Type 0} where
   pub sets_append : (l : List A) (i : ℕ) (a b : List A) → sets l i (a ++ b) ≡ sets (sets l i a) (i + length a) b
@@ -30,6 +30,11 @@ module _ {A : Type 0} where
 pub mid_stored : {A : Type 0} (at : ℕ) (l vs : List A) (k : ℕ) → length vs ≡ k → at + k ≤ length l → put_mid at k l vs ≡ sets l at vs
 mid_stored at l vs k e h =
     rw (drop-drop k at l, ← e) (sym (sets-eq vs l at (omega arith) ∙ append_assoc (take at l) vs (drop (at + length vs) l)))
+
+-- a number's low bytes stored, then its high bytes
+pub put_parts : (m k : ℕ) (l : List ℕ) (at x : ℕ) → sets l at (bytes_of (m + k) x) ≡ sets (sets l at (bytes_of m x)) (at + m) (bytes_of k (x / beyond m))
+put_parts m k l at x =
+    rw (bytes_split m k x, sets_append l at (bytes_of m x) (bytes_of k (x / beyond m)), length_bytes m x)
 
 -- ---- a record, field after field: o counts from its first byte
 abbrev pub stored : List ℕ → ℕ → ℕ → List ℕ → List ℕ → List ℕ

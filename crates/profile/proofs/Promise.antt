@@ -7,6 +7,7 @@ use Prim.Native.Nat.{ℕ, ◌≤◌, ◌<◌}
 use lib.Dec.{ltb}
 use lib.IntN.{ℤ, pos, neg_ℤ, ◌+ℤ◌, ◌-ℤ◌, +ℤ_idl}
 use lib.ListN.{length, take, get_or}
+use lib.Seq.{length-take-le, get_or-take}
 use lib.Signed.{◌≤ℤ◌, ◌<ℤ◌, le_z, lt_z}
 use borrow.Author.Tests.{ltb-true, ltb-false}
 use Rattle.std.specs.Prelude.{Some, None}
@@ -317,6 +318,19 @@ module _ (ss : List Stretch) (k : ℕ) (o : Some k ≡ position falls_short ss) 
         before = λ q h. let b = p.2 q h in omega z;
         there = λ h. let b = p.1 in omega z;
       }
+
+-- the first short of all the stretches, found among the first n
+pub first_in : (ss : List Stretch) (n k : ℕ) → n ≤ length ss → k ≤ n →
+    ((q : ℕ) → q < k → pos 0 ≤ℤ (get_or ss q no_stretch).tight.0) →
+    (k < n → (get_or ss k no_stretch).tight.0 <ℤ pos 0) →
+    FirstShort (take n ss) k
+first_in ss n k h l before there =
+    let e = length-take-le n ss h in
+    record {
+      within = omega (arith, e);
+      before = λ q g. rw (get_or-take n ss q no_stretch (omega arith)) (before q g);
+      there = λ g. let i : k < n = omega (arith, e) in rw (get_or-take n ss k no_stretch i) (there i);
+    }
 
 -- ---- as the code has them: the events, then the changes in the first keys; the stretches in the first places
 pub profiled : (r : ℕ) (k : Kind) (x : ℤ) (bs : List Band) (ts : List Task) (e : Extremes) (ks : List ℕ) (ss : List Stretch) (m : ℕ) →

@@ -1,10 +1,11 @@
 -- Each call by its refusals: 1 to 6 and 13, then 12, then 7; and what a call leaves holds the same allowed plans.
 use Rattle.std.specs.Prelude.{Ok, Err}
-use mathlib.Core.Path.{◌≡◌, refl, sym, ap, subst}
+use mathlib.Core.Path.{◌≡◌, refl, sym, ap, subst, ◌∙◌}
 use mathlib.Core.Bool.{true, false, not}
 use mathlib.Core.List.{List}
-use Prim.Native.Nat.{ℕ, suc}
+use Prim.Native.Nat.{ℕ, suc, ◌≤◌}
 use native.Mathlib.Omega.{arith}
+use lib.ListN.{length}
 use borrow.Author.Tests.{ltb-true}
 use Rattle.integers.proofs.Tests.{by_cases}
 use Rattle.plan.specs.declared.Task.{Task}
@@ -13,11 +14,13 @@ use Rattle.plan.specs.declared.Call.TheVariants.{Check, Balance, Step, Pass, Set
 use Rattle.plan.specs.declared.Refusal.{Refusal}
 use Rattle.plan.specs.declared.Refusal.TheVariants.{NoPlan, NoSuchResource}
 use Rattle.plan.specs.Refusals.{told_answer, Answer, Checked, accepted}
+use Rattle.plan.specs.Tasks.{most_tasks}
 use Rattle.rules.specs.Frame.{Frame, resource_count}
 use Rattle.rules.specs.Balance.{Outcome, balance}
 use Rattle.rules.specs.Step.{resource_step}
 use Rattle.rules.specs.Settle.{Settled, pass, settle_within, settle, rooms, most_passes}
-use Rattle.rules.specs.Calls.{or_else, refuse_if, check, Result, done, refused, unless_refused, stepped, settled, placed_in, answered, call_of}
+use Rattle.rules.specs.Calls.{or_else, refuse_if, check, Result, done, refused, unless_refused, stepped, settled, placed_in, answered, call_of, list_result, list_call}
+use Rattle.rules.proofs.Checks.{accepts}
 use Rattle.rules.proofs.Keeps.{Sound, balance_sound, step_sound, nothing_sound}
 use Rattle.rules.specs.Keeps.{Keeps, HoldsNone}
 use Rattle.rules.proofs.Passes.{pass_sound, SettledSound, settle_sound}
@@ -105,3 +108,16 @@ pub call_stays : (c : Call) (f : Frame) (ts : List Task) → Stays ts (call_of c
 unfolding call_of
 call_stays c f ts =
     unless_stays (or_else (check f ts) (refuse_if (not (placed_in (resource_count f) c)) NoSuchResource)) ts (answered c f ts) (answered_stays c f ts)
+
+-- ---- a call that is done was accepted
+pub call_few : (c : Call) (f : Frame) (ts : List Task) (n : ℕ) (us : List Task) → call_of c f ts ≡ done n us → length ts ≤ most_tasks
+call_few c f ts n us e = go (check f ts) refl
+  where
+    go : (k : Checked) → check f ts ≡ k → length ts ≤ most_tasks
+    go (Ok _) h = (accepts f ts h).few
+    go (Err r) h = let q : ◌≡◌ {A = Answer} (Err r) (Ok n) = ap (λ (x : Result). x.answer) (sym (call_refused c f ts r h) ∙ e) in cc
+
+-- ---- the answer, told in the page's number and values
+pub list_told : (c : Call) (f : Frame) (ts : List Task) (a : Answer) (us : List Task) → record { answer = a; tasks = us } ≡ call_of c f ts → list_result (told_answer a) us ≡ list_call c f ts
+unfolding list_call
+list_told c f ts a us e = ap (λ (x : Result). list_result (told_answer x.answer) x.tasks) e

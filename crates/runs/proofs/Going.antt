@@ -19,7 +19,7 @@ use Rattle.plan.specs.declared.Refusal.TheVariants.{CutShort, ListShort, BandOut
 use Rattle.plan.specs.Tasks.{most_bands}
 use Rattle.format.specs.declared.Mark.TheVariants.{LB}
 use Rattle.format.specs.Format.{bands, mark_size, size, marked, numbers_in, band_from}
-use Rattle.format.specs.Reading.{Run, due, records_in, run_in, band_run, band_due, each_band_due, looked_at, bands_due, band_count, run_unless, ReadBands}
+use Rattle.format.specs.Reading.{Run, Read, due, records_in, run_in, band_run, band_due, each_band_due, looked_at, bands_due, band_count, run_unless, ReadBands, read_unless, read_through, RunWithin}
 use Rattle.format.proofs.Stores.{sets_taken}
 use Rattle.format.proofs.Records.{due_is, due_in_lem, length_in}
 use Rattle.format.proofs.Bands.{taken_in}
@@ -130,3 +130,18 @@ module _ {file : List ℕ} {from at room : ℕ} {r : Run} {list : List Band} (e 
 
   pub bands_refused : {f : Refusal} → r ≡ Err f → bands_due room file at ≡ Err f
   bands_refused g = refused_is (bands_due room file at) (band_count file at) (sym there.answer ∙ g)
+
+pub run_within : {r : Run} {k room : ℕ} → r ≡ Ok k → RunWithin r room → k ≤ room
+run_within {room} g w = subst (λ (x : Run). RunWithin x room) g w
+
+-- what was read behind a run, and the checks that decide it
+pub read_through_lem : {r : Run} {k : ℕ} (x : ℕ → Read) {y : Read} → r ≡ Ok k → read_through r x ≡ y → x k ≡ y
+read_through_lem x {y} g e = subst (λ (z : Run). read_through z x ≡ y) g e
+
+module _ {r : Run} (c : Checked) (k : ℕ) (e : r ≡ run_unless c k) where
+  pub unless_through : (x : ℕ → Read) → read_through r x ≡ read_unless c (x k)
+  unless_through x = rw e (either c)
+    where
+      either : (c : Checked) → read_through (run_unless c k) x ≡ read_unless c (x k)
+      either (Ok _) = refl
+      either (Err f) = refl

@@ -2,7 +2,7 @@
 use Rattle.std.specs.Prelude.{Some, None, Result, Ok, Err}
 use Rattle.std.specs.Result.{result_ok}
 use Rattle.plan.specs.Refusals.{Narrowed}
-use mathlib.Core.Path.{◌≡◌, refl, sym}
+use mathlib.Core.Path.{◌≡◌, refl, sym, ◌∙◌}
 use mathlib.Core.Bool.{true, false}
 use mathlib.Core.List.{List, [], ◌∷◌}
 use Prim.Native.Nat.{ℕ}
@@ -22,7 +22,7 @@ use Rattle.plan.specs.Tasks.{TaskFits}
 use Rattle.rules.specs.Frame.{Floor}
 use Rattle.rules.specs.Balance.{Outcome, each}
 use Rattle.rules.specs.Balance.Outcome.{NoPlan, Plan}
-use Rattle.rules.specs.Step.{narrowed, listed_days, at_least_step}
+use Rattle.rules.specs.Step.{shortfall, narrowed, listed_days, at_least_step}
 use Rattle.rules.proofs.Live.{live_fits}
 use Rattle.rules.proofs.Untouched.{Untouched, untouched_unbarred, narrowed_untouched, narrowed_away}
 use Rattle.stretches.specs.declared.Stretch.{Stretch}
@@ -101,13 +101,22 @@ none_left r limit ts fit tells =
     each_kept (narrowed r limit ts (listed_days ts)) ts λ t k.
     narrowed_untouched r limit ts (listed_days ts) t (λ i. told_quiet r limit [] ts fit k i ((tells t k).quiet i refl)) (live_fits 64 t (each_in fit k))
 
+-- with no day short, the step takes each task by itself
+pub step_enough : (r : ℕ) (limit : Floor) (ts : List Task) → any (shortfall r limit ts) (listed_days ts) ≡ false
+    → at_least_step r limit ts ≡ each (narrowed r limit ts (listed_days ts)) ts
+unfolding at_least_step
+step_enough r limit ts e = rw e
+
+pub step_short : (r : ℕ) (limit : Floor) (ts : List Task) → any (shortfall r limit ts) (listed_days ts) ≡ true → at_least_step r limit ts ≡ NoPlan
+unfolding at_least_step
+step_short r limit ts e = rw e
+
 -- ---- what the profile answered
 module _ (r : ℕ) (limit : Floor) (ts : List Task) (ss : List Stretch) where
   -- a shortfall is no plan
   pub answered_short : (o : Result ℕ Shortfall) → Answered r limit ts ss o → None ≡ result_ok o → NoPlan ≡ at_least_step r limit ts
-  unfolding at_least_step
   answered_short (Ok n) a e = absurd (cc)
-  answered_short (Err s) a e = rw (sym a.1.short_is)
+  answered_short (Err s) a e = sym (step_short r limit ts (sym a.1.short_is))
 
   -- else they are so many
   pub answered_ok : (o : Result ℕ Shortfall) → Answered r limit ts ss o → (n : ℕ) → Some n ≡ result_ok o → Answered r limit ts ss (Ok n)
@@ -118,10 +127,8 @@ module _ (r : ℕ) (limit : Floor) (ts : List Task) (ss : List Stretch) where
     pub answered_tells : TellsAll r limit ts (take n ss)
     answered_tells = record { tells = a.1.tells; enough = sym a.1.short_is }
 
-    -- with no day short, the step takes each task by itself
     pub answered_each : (o : Outcome) → o ≡ each (narrowed r limit ts (listed_days ts)) ts → o ≡ at_least_step r limit ts
-    unfolding at_least_step
-    answered_each o e = rw (sym a.1.short_is) e
+    answered_each o e = e ∙ sym (step_enough r limit ts (sym a.1.short_is))
 
   -- no stretch is left: no rule touches any task
   pub answered_calm : Each (TaskFits 64) ts → Answered r limit ts ss (Ok 0) → Plan ts ≡ at_least_step r limit ts
